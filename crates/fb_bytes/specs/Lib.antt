@@ -1,0 +1,4 @@
+pub mod Bytes
+pub mod Options
+pub mod Keys
+pub mod Pairs

@@ -1,0 +1,16 @@
+//! Byte strings, names, ranges of keys, and pairs of keys and values.
+#![tactic(auto)]
+
+mod blob;
+mod key_range;
+mod names;
+mod pairs;
+mod ranges;
+mod text;
+
+pub use blob::Blob;
+pub use key_range::KeyRange;
+pub use names::Names;
+pub use pairs::{Pair, Pairs};
+pub use ranges::Ranges;
+pub use text::Text;
