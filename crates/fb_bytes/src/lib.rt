@@ -6,6 +6,7 @@ mod key_range;
 mod names;
 mod pairs;
 mod ranges;
+mod seq;
 mod text;
 
 pub use blob::Blob;
@@ -13,4 +14,5 @@ pub use key_range::KeyRange;
 pub use names::Names;
 pub use pairs::{Pair, Pairs};
 pub use ranges::Ranges;
+pub use seq::{Seq, TryCopy};
 pub use text::Text;

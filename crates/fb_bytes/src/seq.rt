@@ -1,0 +1,123 @@
+ghost use Rattle.std.specs.Prelude.{◌≡◌, ◌<◌, ◌↔◌, List, [], ◌∷◌, ◌++◌, length, slice_set, IsTrue, IfOk, OnOk, OnErr};
+
+use std::alloc::{AllocError, Global};
+use std::marker::Model;
+
+use crate::{Blob, KeyRange, Pair, Text};
+
+/// What can be kept twice.
+pub trait TryCopy: Sized {
+    /// An equal value with memory of its own.
+    fn copy(&self) -> Result<Self, AllocError>
+        ensures { IfOk result (λ twin. twin ≡ self.now) };
+}
+
+/// A list on the heap. Contracts see its items.
+#[derive(Debug, Drop)]
+pub struct Seq<T> {
+    items: Vec<T>,
+}
+
+impl<T> Model for Seq<T> {
+    ghost Value = { List T };
+
+    ghost view = { λ s. s.items.items };
+}
+
+impl<T> Seq<T> {
+    /// No items. It takes no memory.
+    pub fn new(alloc: Global) -> Self
+        ensures { result ≡ [] }
+    {
+        Seq {
+            items: Vec::new(alloc),
+        }
+    }
+
+    /// The same items, with no copy.
+    pub fn from_vec(items: Vec<T>) -> Self
+        ensures { result ≡ items.items }
+    {
+        Seq { items }
+    }
+
+    /// The same items, with no copy.
+    pub fn into_vec(self) -> Vec<T>
+        ensures { result.items ≡ self }
+    {
+        let Seq { items } = self;
+        items
+    }
+
+    pub fn as_slice(&self) -> &[T]
+        ensures { result.now ≡ self.now }
+    {
+        &self.items
+    }
+
+    pub fn len(&self) -> usize
+        ensures { result ≡ length self.now }
+    {
+        self.items.len()
+    }
+
+    pub fn is_empty(&self) -> bool
+        ensures { IsTrue result ↔ (self.now ≡ []) }
+    {
+        self.items.is_empty()
+    }
+}
+
+impl<T: Drop> Seq<T> {
+    /// Adds an item at the end. Without memory the item is let go.
+    pub fn push(&mut self, item: T) -> Result<(), AllocError>
+        ensures ok { OnOk result (self.new ≡ self.old ++ item ∷ []) }
+        ensures err { OnErr result (self.new ≡ self.old) }
+    {
+        self.items.push(item)?;
+        Ok(())
+    }
+
+    /// Puts another item into the place of one.
+    pub fn set(&mut self, at: usize, item: T)
+        requires { at < length self.old }
+        ensures { self.new ≡ slice_set self.old at item }
+    {
+        self.items[at] = item;
+    }
+}
+
+impl<T: TryCopy + Drop> TryCopy for Seq<T> {
+    fn copy(&self) -> Result<Self, AllocError> {
+        let mut items = Vec::new(*self.items.allocator());
+        for item in &self.items {
+            let item = item.copy()?;
+            items.push(item)?;
+        }
+        Ok(Seq { items })
+    }
+}
+
+impl TryCopy for Blob {
+    fn copy(&self) -> Result<Self, AllocError> {
+        Blob::copy(self)
+    }
+}
+
+impl TryCopy for Text {
+    fn copy(&self) -> Result<Self, AllocError> {
+        Text::copy(self)
+    }
+}
+
+impl TryCopy for KeyRange {
+    fn copy(&self) -> Result<Self, AllocError> {
+        KeyRange::copy(self)
+    }
+}
+
+impl TryCopy for Pair {
+    fn copy(&self) -> Result<Self, AllocError> {
+        Pair::copy(self)
+    }
+}
