@@ -1,9 +1,8 @@
 ghost use Rattle.std.specs.Prelude.{◌≡◌, ◌<◌, ◌↔◌, List, [], ◌∷◌, ◌++◌, length, slice_set, IsTrue, IfOk, OnOk, OnErr};
 
+use crate::{Blob, KeyRange, Pair, Text};
 use std::alloc::{AllocError, Global};
 use std::marker::Model;
-
-use crate::{Blob, KeyRange, Pair, Text};
 
 /// What can be kept twice.
 pub trait TryCopy: Sized {

@@ -5,6 +5,7 @@ mod batch;
 mod history;
 mod mutation;
 mod muts;
+mod tx_fault;
 mod tx_op;
 mod wire_fault;
 
@@ -12,5 +13,6 @@ pub use batch::{Batch, Batches, LogChunk};
 pub use history::{Entry, History, Who};
 pub use mutation::Mutation;
 pub use muts::Muts;
+pub use tx_fault::{TxFault, fault_of};
 pub use tx_op::{TxOp, TxOps};
 pub use wire_fault::WireFault;

@@ -1,7 +1,7 @@
 ghost use Rattle.std.specs.Prelude.{◌≡◌, ◌↔◌, List, [], ◌∷◌, ◌++◌, length, IsTrue, IfOk, OnOk, OnErr};
 
 use crate::Mutation;
-use fb_bytes::{Blob, KeyRange};
+use fb_bytes::{Blob, KeyRange, TryCopy};
 use std::alloc::{AllocError, Global};
 use std::marker::Model;
 
@@ -108,6 +108,17 @@ impl TxOps {
         ensures { IfOk result (λ ops. ops ≡ self.now) }
     {
         let mut ops = Vec::new(alloc);
+        for op in &self.ops {
+            let op = op.copy()?;
+            ops.push(op)?;
+        }
+        Ok(TxOps { ops })
+    }
+}
+
+impl TryCopy for TxOps {
+    fn copy(&self) -> Result<Self, AllocError> {
+        let mut ops = Vec::new(*self.ops.allocator());
         for op in &self.ops {
             let op = op.copy()?;
             ops.push(op)?;
