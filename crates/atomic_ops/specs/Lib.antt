@@ -1,1 +1,5 @@
+pub mod Bytes
+pub mod Codes
+pub mod Numbers
 pub mod Operation
+pub mod Laws

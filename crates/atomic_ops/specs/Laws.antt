@@ -1,0 +1,1 @@
+-- Laws of fitting, of numbers as bytes, and of operations, for callers.
