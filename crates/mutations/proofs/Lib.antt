@@ -1,0 +1,6 @@
+pub mod Basics
+pub mod Order
+pub mod Replays
+pub mod Clips
+pub mod Logs
+pub mod States
