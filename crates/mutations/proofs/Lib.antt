@@ -1,1 +1,6 @@
-pub mod Ends
+pub mod Basics
+pub mod Order
+pub mod Replays
+pub mod Clips
+pub mod Logs
+pub mod States

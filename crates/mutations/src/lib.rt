@@ -3,6 +3,7 @@
 
 mod batch;
 mod history;
+mod laws;
 mod mutation;
 mod muts;
 mod tx_fault;
@@ -11,6 +12,11 @@ mod wire_fault;
 
 pub use batch::{Batch, Batches, LogChunk};
 pub use history::{Entry, History, Who};
+pub use laws::{
+    append_law, clip_law, lock_law, logged_append_law, logged_join_law, logged_law,
+    logged_replay_law, logged_state_law, replay_append_law, replay_join_law, state_law, touch_law,
+    untouched_law,
+};
 pub use mutation::Mutation;
 pub use muts::Muts;
 pub use tx_fault::{TxFault, fault_of};
