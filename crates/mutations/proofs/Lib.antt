@@ -4,3 +4,4 @@ pub mod Replays
 pub mod Clips
 pub mod Logs
 pub mod States
+pub mod Ends

@@ -6,3 +6,4 @@ pub mod Spelling
 pub mod Parts
 pub mod Reading
 pub mod Laws
+pub mod Transactions

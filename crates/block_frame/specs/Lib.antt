@@ -1,0 +1,4 @@
+pub mod Profiles
+pub mod Text
+pub mod Frames
+pub mod Rows
