@@ -1,0 +1,18 @@
+//! What the program takes its input from, writes its output to and keeps its files in.
+#![tactic(auto)]
+
+mod fault;
+mod files;
+mod reading;
+mod sink;
+mod source;
+mod vault;
+mod writing;
+
+pub use fault::{Failed, VaultFail};
+pub use files::{File, Files};
+pub use reading::{ReadFault, read_all};
+pub use sink::Sink;
+pub use source::Source;
+pub use vault::Vault;
+pub use writing::write_all;
