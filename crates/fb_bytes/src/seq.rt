@@ -1,4 +1,4 @@
-ghost use Rattle.std.specs.Prelude.{◌≡◌, ◌<◌, ◌↔◌, List, [], ◌∷◌, ◌++◌, length, slice_set, IsTrue, IfOk, OnOk, OnErr};
+ghost use Rattle.std.specs.Prelude.{◌≡◌, ◌<◌, ◌↔◌, List, [], ◌∷◌, ◌++◌, length, slice_set, IsTrue, IfOk, IfSome, IfNone, OnOk, OnErr};
 
 use crate::{Blob, KeyRange, Pair, Text};
 use std::alloc::{AllocError, Global};
@@ -75,6 +75,14 @@ impl<T: Drop> Seq<T> {
     {
         self.items.push(item)?;
         Ok(())
+    }
+
+    /// Takes the last item out.
+    pub fn pop(&mut self) -> Option<T>
+        ensures some { IfSome result (λ item. self.old ≡ self.new ++ item ∷ []) }
+        ensures none { IfNone result ((self.old ≡ []) × (self.new ≡ [])) }
+    {
+        self.items.pop()
     }
 
     /// Puts another item into the place of one.

@@ -4,11 +4,11 @@ use Rattle.std.specs.Option.{option_map}
 use Rattle.fb_bytes.specs.Bytes.{Bytes, is_below, is_same}
 use Rattle.fb_bytes.specs.Keys.{user_end}
 use Rattle.fb_bytes.specs.Options.{first_place}
-pub use Rattle.mutations.specs.declared.mutation.Mutation.{Mutation}
+use Rattle.mutations.specs.declared.mutation.Mutation.{Mutation}
 use Rattle.mutations.specs.declared.mutation.Mutation.TheVariants.{Set, ClearRange, Atomic}
-pub use Rattle.mutations.specs.declared.tx_op.TxOp.{TxOp}
+use Rattle.mutations.specs.declared.tx_op.TxOp.{TxOp}
 use Rattle.mutations.specs.declared.tx_op.TxOp.TheVariants.{Get, SnapshotGet, Scan, Write}
-pub use Rattle.mutations.specs.declared.tx_fault.TxFault.{TxFault}
+use Rattle.mutations.specs.declared.tx_fault.TxFault.{TxFault}
 use Rattle.mutations.specs.declared.tx_fault.TxFault.TheVariants.{Outside, KeyTooLarge, ValueTooLarge, TooLarge}
 
 -- the writes, in order

@@ -1,6 +1,6 @@
-ghost use Rattle.std.specs.Prelude.{◌≡◌, ◌↔◌, List, [], ◌∷◌, ◌++◌, length, IsTrue, IfOk, OnOk, OnErr};
+ghost use Rattle.std.specs.Prelude.{◌≡◌, ◌≢◌, ◌↔◌, List, [], ◌∷◌, ◌++◌, length, IsTrue, IfOk, OnOk, OnErr};
 
-use crate::Mutation;
+use crate::{Mutation, Muts};
 use fb_bytes::{Blob, KeyRange, TryCopy};
 use std::alloc::{AllocError, Global};
 use std::marker::Model;
@@ -113,6 +113,38 @@ impl TxOps {
             ops.push(op)?;
         }
         Ok(TxOps { ops })
+    }
+}
+
+impl TxOps {
+    ghost use Rattle.std.specs.Prelude.{false};
+    ghost use Rattle.mutations.specs.Transactions.{writes_of};
+
+    /// Whether one of the operations writes. It takes no memory.
+    pub fn has_writes(&self) -> bool
+        ensures some { IsTrue result → writes_of self.now ≢ [] }
+        ensures none { result ≡ false → writes_of self.now ≡ [] }
+    {
+        for op in &self.ops {
+            if let TxOp::Write(_) = op {
+                return true;
+            }
+        }
+        false
+    }
+
+    /// The writes, in order, with memory of their own.
+    pub fn writes(&self, alloc: Global) -> Result<Muts, AllocError>
+        ensures { IfOk result (λ muts. muts ≡ writes_of self.now) }
+    {
+        let mut writes = Vec::new(alloc);
+        for op in &self.ops {
+            if let TxOp::Write(mutation) = op {
+                let mutation = mutation.copy()?;
+                writes.push(mutation)?;
+            }
+        }
+        Ok(Muts::from_vec(writes))
     }
 }
 

@@ -1,6 +1,10 @@
-use crate::{ClientScript, ScheduleLine, Settings};
+ghost use Rattle.std.specs.Prelude.{◌≡◌, true};
+ghost use Rattle.workload_text.specs.Scripts.{are_numbered};
+
 use fb_bytes::{Seq, TryCopy};
 use std::alloc::AllocError;
+
+use crate::{ClientScript, ScheduleLine, Settings};
 
 /// What a run plays.
 #[derive(Debug, Drop)]
@@ -9,6 +13,7 @@ pub struct Workload {
     /// In the order of their numbers.
     pub clients: Seq<ClientScript>,
     pub schedule: Seq<ScheduleLine>,
+    pub ghost numbered: { are_numbered 1 clients ≡ true },
 }
 
 impl TryCopy for Workload {

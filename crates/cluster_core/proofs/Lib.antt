@@ -1,0 +1,5 @@
+pub mod Lists
+pub mod Entries
+pub mod Answered
+pub mod Steps
+pub mod Openings

@@ -1,0 +1,60 @@
+-- The opening state is sound.
+use Rattle.std.specs.Prelude.{◌≡◌, ℕ, zero, suc, ◌+◌, ◌≤◌, Bool, true, false, ◌&&◌, List, [], ◌∷◌, map, length, Option, Some, None, slice_get, nat_eq, refl}
+use Rattle.std.proofs.Common.{ap, sym, ◌∙◌, arith, subst}
+use Rattle.std.proofs.lemmas.Bool.{eqb-true, and_parts}
+use Rattle.fb_outside.specs.declared.File.{File}
+use Rattle.workload_text.specs.declared.ClientScript.{ClientScript}
+use Rattle.workload_text.specs.declared.Workload.{Workload}
+use Rattle.workload_text.specs.declared.Side.{Side}
+use Rattle.workload_text.specs.declared.Side.TheVariants.{Src, Dst}
+use Rattle.workload_text.specs.Scripts.{are_numbered}
+use Rattle.client_core.specs.Clients.{ClientState, new_client}
+use Rattle.client_core.specs.Legal.{entries_by}
+use Rattle.cluster_core.specs.State.{State, on_side, client_at, opening}
+use Rattle.cluster_core.specs.Sound.{IsOrdered, other_side, IsClientSound, Sound}
+use Rattle.cluster_core.specs.Laws.{OpeningLaw}
+
+-- the client at a place is new, and numbered by its place
+record IsNew (number : ℕ) (client : ClientState) : Type 0 where
+  numbered : client.script.number ≡ number
+  fresh : client ≡ new_client client.script
+
+new_at : (from : ℕ) (scripts : List ClientScript) (k : ℕ) (client : ClientState) → are_numbered from scripts ≡ true → slice_get (map new_client scripts) k ≡ Some client → IsNew (from + k) client
+new_at from [] zero client h e = cc
+new_at from [] (suc k) client h e = cc
+new_at from (x ∷ xs) zero client h e =
+    let same : new_client x ≡ client = cc in
+    let number : x.number ≡ from = eqb-true _ _ (and_parts (nat_eq x.number from) (are_numbered (from + 1) xs) h).0 in
+    subst (IsNew (from + 0)) same (record { numbered = omega arith; fresh = refl })
+new_at from (x ∷ xs) (suc k) client h e =
+    let rest : IsNew (from + 1 + k) client = new_at (from + 1) xs k client (and_parts (nat_eq x.number from) (are_numbered (from + 1) xs) h).1 e in
+    record { numbered = rest.numbered ∙ omega arith; fresh = rest.fresh }
+
+none_on : (n : ℕ) (side : Side) → entries_by n (on_side side [] []) ≡ []
+none_on n Src = refl
+none_on n Dst = refl
+
+ordered_none : (side : Side) → IsOrdered 0 (on_side side [] [])
+ordered_none Src = record { rising = tt; past = tt }
+ordered_none Dst = record { rising = tt; past = tt }
+
+new_sound : (number : ℕ) (script : ClientScript) → script.number ≡ number → IsClientSound [] [] number (new_client script)
+new_sound number script h = record { numbered = h; placed = refl; legal = record { follow = tt; entries = none_on number script.side }; apart = none_on number (other_side script.side) }
+
+scripts_new : (scripts : List ClientScript) → map (λ (client : ClientState). client.script) (map new_client scripts) ≡ scripts
+scripts_new [] = refl
+scripts_new (x ∷ xs) = ap (λ ys. x ∷ ys) (scripts_new xs)
+
+each_new : (workload : Workload) (number : ℕ) (client : ClientState) → client_at (map new_client workload.clients) number ≡ Some client → IsClientSound [] [] number client
+each_new workload zero client e = cc
+each_new workload (suc k) client e =
+    let new : IsNew (1 + k) client = new_at 1 workload.clients k client workload.numbered e in
+    subst (IsClientSound [] [] (suc k)) (sym new.fresh) (new_sound (suc k) client.script (new.numbered ∙ omega arith))
+
+pub opening_is_sound : OpeningLaw
+opening_is_sound workload files = record {
+  bound = omega arith;
+  histories = ordered_none;
+  scripts_are = scripts_new workload.clients;
+  clients = each_new workload;
+}

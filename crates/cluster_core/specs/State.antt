@@ -1,0 +1,46 @@
+-- The machine's state.
+use Rattle.std.specs.Prelude.{ℕ, zero, suc, List, [], map, Option, None, slice_get, slice_set}
+use Rattle.fb_outside.specs.declared.File.{File}
+use Rattle.mutations.specs.declared.Entry.{Entry}
+use Rattle.workload_text.specs.declared.Side.{Side}
+use Rattle.workload_text.specs.declared.Side.TheVariants.{Src, Dst}
+use Rattle.workload_text.specs.declared.Workload.{Workload}
+use Rattle.client_core.specs.Clients.{ClientState, new_client}
+
+pub record State : Type 0 where
+  -- the newest version
+  pub time : ℕ
+  -- the histories of the two databases
+  pub src : List Entry
+  pub dst : List Entry
+  -- in the order of their numbers
+  pub clients : List ClientState
+  -- the files of the store, where it tells them
+  pub files : Option (List File)
+
+-- the one of a side
+abbrev pub on_side : {X : Type 0} → Side → X → X → X
+on_side Src src dst = src
+on_side Dst src dst = dst
+
+-- the history of a side's database
+abbrev pub history_on : Side → State → List Entry
+history_on side w = on_side side w.src w.dst
+
+abbrev pub with_history : Side → List Entry → State → State
+with_history Src history w = record w { src = history }
+with_history Dst history w = record w { dst = history }
+
+-- the client of a number, counted from 1
+abbrev pub client_at : List ClientState → ℕ → Option ClientState
+client_at clients zero = None
+client_at clients (suc n) = slice_get clients n
+
+-- another client in the place of that number
+abbrev pub put_client : List ClientState → ℕ → ClientState → List ClientState
+put_client clients zero client = clients
+put_client clients (suc n) client = slice_set clients n client
+
+-- the state in which a workload begins
+abbrev pub opening : Workload → Option (List File) → State
+opening workload files = record { time = 0; src = []; dst = []; clients = map new_client workload.clients; files = files }

@@ -1,0 +1,114 @@
+ghost use Rattle.std.specs.Prelude.{◌≡◌, ℕ, List, Option, Some, None, Ok, map, MatchOption, IfOk, OnErr};
+ghost use Rattle.fb_outside.specs.declared.File.{File};
+ghost use Rattle.workload_text.specs.declared.Settings.{Settings};
+ghost use Rattle.client_core.specs.Clients.{ClientState, new_client};
+ghost use Rattle.cluster_core.specs.State.{put_client};
+ghost use Rattle.cluster_core.specs.Step.{commit, moved};
+ghost use Rattle.cluster_core.specs.World.{state_of, begun_in, tried_in, side_in};
+
+use crate::{Answer, StepFault};
+use client_core::{Client, Outcome};
+use database::Db;
+use std::alloc::{AllocError, Global};
+use versioned_kv::Versions;
+use workload_text::{ClientScript, Side};
+
+// Clients at the start of their scripts.
+pub fn new_clients(alloc: Global, scripts: &[ClientScript]) -> Result<Vec<Client>, AllocError>
+    ensures { IfOk result (λ clients. clients.items ≡ map new_client scripts.now) }
+{
+    let mut clients = Vec::new(alloc);
+    for script in scripts {
+        let client = Client::new(alloc, script)?;
+        clients.push(client)?;
+    }
+    Ok(clients)
+}
+
+// The client of that number begins its next transaction, where it can.
+pub fn begin_client(
+    clients: &mut [Client],
+    number: u32,
+    db: &Db,
+    versions: &Versions,
+) -> Option<u64>
+    ensures { MatchOption result
+        ((begun_in clients.old number versions.entry.now.now ≡ None) × (clients.new ≡ clients.old))
+        (λ read. (read ≡ versions.entry.now.now) × ((client : ClientState)
+            × (begun_in clients.old number versions.entry.now.now ≡ Some client)
+            × (clients.new ≡ put_client clients.old number client))) }
+{
+    if number == 0 {
+        return None;
+    }
+    let index = number as usize - 1;
+    if index >= clients.len() {
+        return None;
+    }
+    clients[index].begin(db, versions)
+}
+
+// The client of that number tries to commit, where it has begun a transaction.
+pub fn commit_client(
+    clients: &mut [Client],
+    number: u32,
+    src: &mut Db,
+    dst: &mut Db,
+    versions: &mut Versions,
+) -> Result<Answer, StepFault>
+    ensures ok { IfOk result (λ answer. (s : Settings) (files : Option (List File)) → src.old.block ≡ s.block → dst.old.block ≡ s.block → versions.old.pace ≡ s.pace →
+        commit s (state_of clients.old src.old dst.old versions.old files) number ≡ moved (Ok answer) (state_of clients.new src.new dst.new versions.new files)) }
+    ensures blocks { (src.new.block ≡ src.old.block) × (dst.new.block ≡ dst.old.block) }
+    ensures pace { versions.new.pace ≡ versions.old.pace }
+    ensures err { OnErr result ((clients.new ≡ clients.old) × (src.new ≡ src.old) × (dst.new ≡ dst.old) × (versions.new ≡ versions.old)) }
+{
+    let tried = match side_of(clients, number) {
+        Some(Side::Src) => try_client(clients, number, src, versions)?,
+        Some(Side::Dst) => try_client(clients, number, dst, versions)?,
+        None => None,
+    };
+    match tried {
+        Some(outcome) => Ok(Answer::Outcome(outcome)),
+        None => Ok(Answer::Nothing),
+    }
+}
+
+// The side of the client of that number.
+fn side_of(clients: &[Client], number: u32) -> Option<Side>
+    ensures { result ≡ side_in clients.now number }
+{
+    if number == 0 {
+        return None;
+    }
+    match clients.get(number as usize - 1) {
+        Some(client) => Some(client.side()),
+        None => None,
+    }
+}
+
+// The client of that number tries to commit to the database.
+fn try_client(
+    clients: &mut [Client],
+    number: u32,
+    db: &mut Db,
+    versions: &mut Versions,
+) -> Result<Option<Outcome>, AllocError>
+    ensures ok { IfOk result (λ outcome. MatchOption outcome
+        ((tried_in clients.old number db.old versions.old ≡ None)
+            × (clients.new ≡ clients.old) × (db.new ≡ db.old) × (versions.new ≡ versions.old))
+        (λ outcome. (client : ClientState)
+            × (tried_in clients.old number db.old versions.old
+                ≡ Some (record { outcome = outcome; client = client; history = db.new.history; time = versions.new.now }))
+            × (clients.new ≡ put_client clients.old number client))) }
+    ensures same { (db.new.block ≡ db.old.block) × (versions.new.pace ≡ versions.old.pace) }
+    ensures err { OnErr result ((clients.new ≡ clients.old) × (db.new ≡ db.old) × (versions.new ≡ versions.old)) }
+{
+    if number == 0 {
+        return Ok(None);
+    }
+    let index = number as usize - 1;
+    if index >= clients.len() {
+        return Ok(None);
+    }
+    clients[index].commit(db, versions)
+}

@@ -1,0 +1,44 @@
+ghost use Rattle.std.specs.Prelude.{◌≡◌};
+ghost use Rattle.database.specs.declared.commit_fault.CommitFault.TheVariants.{NoMemory};
+ghost use Rattle.database.specs.Faults.{of_transaction};
+
+use mutations::TxFault;
+use std::alloc::AllocError;
+
+/// Why a transaction wasn't committed. Operations are counted from 0.
+#[derive(Clone, Copy, Debug, PartialEq, Eq)]
+pub enum CommitFault {
+    /// A key isn't a user's, or a range's end is past the user space.
+    Outside { index: usize },
+    /// A key is longer than the limit on keys.
+    KeyTooLarge { index: usize },
+    /// A value or a parameter is longer than the limit on values.
+    ValueTooLarge { index: usize },
+    /// The writes have more than 10,000,000 bytes.
+    TooLarge { bytes: u128 },
+    /// There is no version left; `version` is the newest.
+    VersionsSpent { version: u64 },
+    /// There was no memory for the entry.
+    NoMemory,
+}
+
+impl From<TxFault> for CommitFault {
+    ghost from_gives = { λ fault e. e ≡ of_transaction fault };
+
+    fn from(fault: TxFault) -> Self {
+        match fault {
+            TxFault::Outside { index } => CommitFault::Outside { index },
+            TxFault::KeyTooLarge { index } => CommitFault::KeyTooLarge { index },
+            TxFault::ValueTooLarge { index } => CommitFault::ValueTooLarge { index },
+            TxFault::TooLarge { bytes } => CommitFault::TooLarge { bytes },
+        }
+    }
+}
+
+impl From<AllocError> for CommitFault {
+    ghost from_gives = { λ _ e. e ≡ NoMemory };
+
+    fn from(_: AllocError) -> Self {
+        CommitFault::NoMemory
+    }
+}
