@@ -4,10 +4,12 @@
 mod bitwise;
 mod byte_order;
 mod fitting;
+mod laws;
 mod number;
 mod op;
 mod results;
 mod table;
 
+pub use laws::{code_laws, fitting_laws, number_laws, operation_laws};
 pub use op::Op;
 pub use results::apply;
