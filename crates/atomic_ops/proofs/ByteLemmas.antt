@@ -1,10 +1,9 @@
 -- Byte strings: fitting, and what stays made of bytes.
-use Rattle.std.proofs.Common.{◌≡◌, ℕ, zero, suc, ◌+◌, ◌-◌, ◌^◌, ◌<◌, ◌≤◌, min, ◌⊎◌, inl, inr, List, [], ◌∷◌, ◌++◌, length, get_or, take, replicate, map, bit_and, bit_or, bit_xor, refl, sym, ◌∙◌, ap, arith, lit<}
+use Rattle.std.proofs.Common.{◌≡◌, ℕ, zero, suc, ◌+◌, ◌-◌, ◌<◌, ◌≤◌, ◌⊎◌, inl, inr, [], ◌∷◌, ◌++◌, length, get_or, replicate, map, bit_and, bit_or, bit_xor, refl, sym, ◌∙◌, ap, arith, lit<}
 use Rattle.std.specs.Prelude.{Option, Some, None, unwrap_or, zip}
 use Rattle.std.proofs.lemmas.Bool.{cases_lt}
-use Rattle.std.proofs.lemmas.List.{length-append, length-replicate, length-take-le, length-map, get_or-take, get_or_append_left, get_or-append_right, get_or-replicate, get_or_past}
+use Rattle.std.proofs.lemmas.List.{length-append, length-replicate, length-take-le, get_or-take, get_or_append_left, get_or-append_right, get_or-replicate, get_or_past}
 use Rattle.std.proofs.lemmas.Nat.{and_le_l, or_lt, xor_lt}
-use Rattle.std.proofs.lemmas.Slice.Zip.{length-zip}
 use Rattle.atomic_ops.specs.Bytes.{Bytes, IsBytes, fitted, bytes_and, bytes_or, bytes_xor}
 
 room : (old : Bytes) (n : ℕ) → length (old ++ replicate n 0) ≡ length old + n

@@ -1,6 +1,6 @@
 -- A code, and a word, is that of one operation.
-use Rattle.std.proofs.Common.{◌≡◌, ℕ, ◌≤◌, Bool, true, false, cond, List, [], ◌∷◌, refl, sym, ◌∙◌, lit≤}
-use Rattle.std.specs.Prelude.{Option, Some, None, find, nat_eq}
+use Rattle.std.proofs.Common.{◌≡◌, ℕ, ◌≤◌, Bool, true, false, cond, List, [], ◌∷◌, refl, lit≤}
+use Rattle.std.specs.Prelude.{Some, find, nat_eq}
 use Rattle.std.specs.Cmp.Lexicographic.{bytes_decides}
 use Rattle.std.proofs.lemmas.Bool.{eqb-true}
 use Rattle.atomic_ops.specs.declared.op.Op.{Op}

@@ -1,15 +1,13 @@
 -- The results of operations: how long they are, their bytes, and when there is none.
-use Rattle.std.proofs.Common.{◌≡◌, ◌≢◌, ℕ, ◌+◌, ◌<◌, ◌≤◌, max, ◌⊎◌, inl, inr, Bool, true, false, cond, List, [], ◌++◌, length, bit_and, bit_or, bit_xor, refl, sym, ◌∙◌, ap, arith, nat_le, nat_lt}
+use Rattle.std.proofs.Common.{◌≡◌, ◌≢◌, ℕ, ◌+◌, ◌<◌, ◌≤◌, max, ◌⊎◌, inl, inr, Bool, true, false, cond, [], ◌++◌, length, bit_and, bit_or, bit_xor, refl, ap, arith, nat_le}
 use Rattle.std.specs.Prelude.{Option, Some, None, unwrap_or, IfSome, IsSomeAnd}
-use Rattle.std.specs.Ordering.{is_gt, nat_cmp}
-use Rattle.std.specs.Cmp.Lexicographic.{slice_cmp, bytes_decides}
+use Rattle.std.specs.Cmp.Lexicographic.{bytes_decides}
 use Rattle.std.proofs.lemmas.Bool.{cond_both, cond-true, cond-false, leb-true, lt-leb}
 use Rattle.std.proofs.lemmas.List.{length-append}
 use Rattle.atomic_ops.specs.declared.op.Op.{Op}
 use Rattle.atomic_ops.specs.declared.op.Op.TheVariants.{Add, And, Or, Xor, AppendIfFits, Max, Min, ByteMin, ByteMax, MinV2, AndV2, CompareAndClear}
-use Rattle.atomic_ops.specs.Bytes.{Bytes, IsBytes, is_same, fitted, earlier, later}
+use Rattle.atomic_ops.specs.Bytes.{Bytes, IsBytes, is_same, fitted}
 use Rattle.atomic_ops.specs.Laws.{has_param_length}
-use Rattle.atomic_ops.specs.Numbers.{number, sum_bytes, greater, lesser}
 use Rattle.atomic_ops.specs.Operation.{appended, operation}
 use Rattle.atomic_ops.proofs.ByteLemmas.{length-fitted, fitted_are_bytes, length-zipped, and_are_bytes, or_are_bytes, xor_are_bytes, appended_are_bytes}
 use Rattle.atomic_ops.proofs.NumberLemmas.{length-number_bytes, number_bytes_are_bytes}

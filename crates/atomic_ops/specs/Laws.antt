@@ -1,5 +1,5 @@
 -- Laws of codes, of fitting, of bytes as numbers and of operations.
-use Rattle.std.specs.Prelude.{◌≡◌, ◌≢◌, ℕ, ◌%◌, ◌^◌, ◌<◌, ◌≤◌, max, Bool, true, false, List, [], length, reverse, slice_index, unwrap_or, Option, Some, None, ◌⊎◌, IfSome, IsSomeAnd}
+use Rattle.std.specs.Prelude.{◌≡◌, ◌≢◌, ℕ, ◌%◌, ◌^◌, ◌<◌, ◌≤◌, max, Bool, true, false, [], length, reverse, slice_index, unwrap_or, Option, Some, None, ◌⊎◌, IfSome, IsSomeAnd}
 use Rattle.std.specs.Ordering.{nat_cmp}
 use Rattle.std.specs.Cmp.Lexicographic.{slice_cmp}
 use Rattle.atomic_ops.specs.declared.op.Op.{Op}

@@ -9,6 +9,8 @@ mod number;
 mod op;
 mod results;
 mod table;
+#[cfg(test)]
+mod tests;
 
 pub use laws::{code_laws, fitting_laws, number_laws, operation_laws};
 pub use op::Op;
