@@ -1,1 +1,4 @@
 pub mod NumberLemmas
+pub mod ByteLemmas
+pub mod CodeLemmas
+pub mod OperationLemmas

@@ -30,10 +30,13 @@ pub fn apply(
     param: &[u8],
     limit: usize,
 ) -> Result<Option<Vec<u8>>, AllocError>
-    ensures { IfOk result (λ left. bytes_left left ≡ operation op (option_copied old.entry) param.now limit) }
+    ensures { IfOk result (λ left. bytes_left left ≡
+        operation op (option_copied old.entry) param.now limit) }
 {
     operations!(result_of op alloc old param limit)
 }
+
+// A function for each row of the table, under the name that the row has for it.
 
 fn sum(
     alloc: Global,
@@ -41,7 +44,8 @@ fn sum(
     param: &[u8],
     _limit: usize,
 ) -> Result<Option<Vec<u8>>, AllocError>
-    ensures { IfOk result (λ left. bytes_left left ≡ Some (sum_bytes (fitted (option_copied old.entry) (length param.now)) param.now)) }
+    ensures { IfOk result (λ left. bytes_left left ≡
+        Some (sum_bytes (fitted (option_copied old.entry) (length param.now)) param.now)) }
 {
     let mut total = fitted(alloc, old, param.len())?;
     add_into(&mut total, param);
@@ -54,7 +58,8 @@ fn conjunction(
     param: &[u8],
     _limit: usize,
 ) -> Result<Option<Vec<u8>>, AllocError>
-    ensures { IfOk result (λ left. bytes_left left ≡ Some (bytes_and (fitted (option_copied old.entry) (length param.now)) param.now)) }
+    ensures { IfOk result (λ left. bytes_left left ≡
+        Some (bytes_and (fitted (option_copied old.entry) (length param.now)) param.now)) }
 {
     let old = fitted(alloc, old, param.len())?;
     Ok(Some(and(alloc, &old, param)?))
@@ -66,7 +71,8 @@ fn disjunction(
     param: &[u8],
     _limit: usize,
 ) -> Result<Option<Vec<u8>>, AllocError>
-    ensures { IfOk result (λ left. bytes_left left ≡ Some (bytes_or (fitted (option_copied old.entry) (length param.now)) param.now)) }
+    ensures { IfOk result (λ left. bytes_left left ≡
+        Some (bytes_or (fitted (option_copied old.entry) (length param.now)) param.now)) }
 {
     let old = fitted(alloc, old, param.len())?;
     Ok(Some(or(alloc, &old, param)?))
@@ -78,7 +84,8 @@ fn exclusion(
     param: &[u8],
     _limit: usize,
 ) -> Result<Option<Vec<u8>>, AllocError>
-    ensures { IfOk result (λ left. bytes_left left ≡ Some (bytes_xor (fitted (option_copied old.entry) (length param.now)) param.now)) }
+    ensures { IfOk result (λ left. bytes_left left ≡
+        Some (bytes_xor (fitted (option_copied old.entry) (length param.now)) param.now)) }
 {
     let old = fitted(alloc, old, param.len())?;
     Ok(Some(xor(alloc, &old, param)?))
@@ -90,7 +97,8 @@ fn extended(
     param: &[u8],
     limit: usize,
 ) -> Result<Option<Vec<u8>>, AllocError>
-    ensures { IfOk result (λ left. bytes_left left ≡ Some (appended (unwrap_or (option_copied old.entry) []) param.now limit)) }
+    ensures { IfOk result (λ left. bytes_left left ≡
+        Some (appended (unwrap_or (option_copied old.entry) []) param.now limit)) }
 {
     let old = old.unwrap_or(&[]);
     let mut bytes = Vec::from_slice(alloc, old)?;
@@ -106,7 +114,8 @@ fn greater(
     param: &[u8],
     _limit: usize,
 ) -> Result<Option<Vec<u8>>, AllocError>
-    ensures { IfOk result (λ left. bytes_left left ≡ Some (greater (fitted (option_copied old.entry) (length param.now)) param.now)) }
+    ensures { IfOk result (λ left. bytes_left left ≡
+        Some (greater (fitted (option_copied old.entry) (length param.now)) param.now)) }
 {
     let mut bytes = fitted(alloc, old, param.len())?;
     if compare(&bytes, param).is_lt() {
@@ -121,7 +130,8 @@ fn lesser(
     param: &[u8],
     _limit: usize,
 ) -> Result<Option<Vec<u8>>, AllocError>
-    ensures { IfOk result (λ left. bytes_left left ≡ Some (lesser (fitted (option_copied old.entry) (length param.now)) param.now)) }
+    ensures { IfOk result (λ left. bytes_left left ≡
+        Some (lesser (fitted (option_copied old.entry) (length param.now)) param.now)) }
 {
     let mut bytes = fitted(alloc, old, param.len())?;
     if compare(&bytes, param).is_gt() {
@@ -136,7 +146,8 @@ fn earlier_or_param(
     param: &[u8],
     _limit: usize,
 ) -> Result<Option<Vec<u8>>, AllocError>
-    ensures { IfOk result (λ left. bytes_left left ≡ Some (option_map_or (λ old. earlier old param.now) (option_copied old.entry) param.now)) }
+    ensures { IfOk result (λ left. bytes_left left ≡
+        Some (option_map_or (λ old. earlier old param.now) (option_copied old.entry) param.now)) }
 {
     match old {
         Some(old) => kept(alloc, earlier(old, param)),
@@ -150,7 +161,8 @@ fn later_or_param(
     param: &[u8],
     _limit: usize,
 ) -> Result<Option<Vec<u8>>, AllocError>
-    ensures { IfOk result (λ left. bytes_left left ≡ Some (option_map_or (λ old. later old param.now) (option_copied old.entry) param.now)) }
+    ensures { IfOk result (λ left. bytes_left left ≡
+        Some (option_map_or (λ old. later old param.now) (option_copied old.entry) param.now)) }
 {
     match old {
         Some(old) => kept(alloc, later(old, param)),
@@ -164,7 +176,8 @@ fn lesser_or_param(
     param: &[u8],
     limit: usize,
 ) -> Result<Option<Vec<u8>>, AllocError>
-    ensures { IfOk result (λ left. bytes_left left ≡ Some (option_map_or (λ old. lesser (fitted (Some old) (length param.now)) param.now) (option_copied old.entry) param.now)) }
+    ensures { IfOk result (λ left. bytes_left left ≡
+        Some (option_map_or (λ old. lesser (fitted (Some old) (length param.now)) param.now) (option_copied old.entry) param.now)) }
 {
     match old {
         Some(_) => lesser(alloc, old, param, limit),
@@ -178,7 +191,8 @@ fn conjunction_or_param(
     param: &[u8],
     limit: usize,
 ) -> Result<Option<Vec<u8>>, AllocError>
-    ensures { IfOk result (λ left. bytes_left left ≡ Some (option_map_or (λ old. bytes_and (fitted (Some old) (length param.now)) param.now) (option_copied old.entry) param.now)) }
+    ensures { IfOk result (λ left. bytes_left left ≡
+        Some (option_map_or (λ old. bytes_and (fitted (Some old) (length param.now)) param.now) (option_copied old.entry) param.now)) }
 {
     match old {
         Some(_) => conjunction(alloc, old, param, limit),
@@ -192,7 +206,8 @@ fn kept_unless_same(
     param: &[u8],
     _limit: usize,
 ) -> Result<Option<Vec<u8>>, AllocError>
-    ensures { IfOk result (λ left. bytes_left left ≡ option_and_then (λ old. if is_same old param.now then None else Some old) (option_copied old.entry)) }
+    ensures { IfOk result (λ left. bytes_left left ≡
+        option_and_then (λ old. if is_same old param.now then None else Some old) (option_copied old.entry)) }
 {
     match old {
         Some(old) if old != param => kept(alloc, old),

@@ -1,5 +1,3 @@
-use Rattle.std.proofs.Common.{◌≡◌, ℕ, ◌+◌, ◌*◌, ◌^◌, ◌≤◌, take, get_or}
-use Rattle.atomic_ops.specs.Numbers.{number}
 use Rattle.atomic_ops.proofs.NumberLemmas.{AddsUp}
 use Rattle.atomic_ops.proofs.number.add_into.Given as goal
 
