@@ -1,5 +1,6 @@
 pub mod Basics
 pub mod Order
+pub mod Lengths
 pub mod Replays
 pub mod Clips
 pub mod Logs

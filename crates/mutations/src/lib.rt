@@ -2,15 +2,22 @@
 #![tactic(auto)]
 
 mod batch;
+mod clipping;
+mod counting;
+mod encoding;
 mod history;
 mod laws;
 mod mutation;
 mod muts;
 mod tx_fault;
 mod tx_op;
+mod wire;
 mod wire_fault;
 
 pub use batch::{Batch, Batches, LogChunk};
+pub use clipping::{clip, touches};
+pub use counting::{clipped_bytes, mutation_bytes};
+pub use encoding::encode_batch;
 pub use history::{Entry, History, Who};
 pub use laws::{
     append_law, clip_law, lock_law, logged_append_law, logged_join_law, logged_law,
