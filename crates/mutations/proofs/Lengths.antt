@@ -74,3 +74,6 @@ item_fits muts i m limit h e few =
 -- a sum of which each part stops at a limit stops there
 pub saturated : (limit sum size old part new : ℕ) → old ≡ min sum limit → part ≡ min size limit → new ≡ min (old + part) limit → new ≡ min (sum + size) limit
 saturated limit sum size old part new h g k = omega arith
+
+pub saturated_at_end : (limit sum size old new : ℕ) → old ≡ min sum limit → new ≡ min (old + size) limit → new ≡ min (sum + size) limit
+saturated_at_end limit sum size old new h k = omega arith
