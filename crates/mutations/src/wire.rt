@@ -61,6 +61,7 @@ pub fn number_at(bytes: &[u8]) -> Option<(u32, &[u8])>
 }
 
 /// A mutation's code and two strings, and the bytes after it.
+#[derive(Debug, Drop)]
 pub struct MutationParts<'a> {
     pub code: u32,
     pub first: &'a [u8],
