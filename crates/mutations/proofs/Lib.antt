@@ -1,5 +1,9 @@
 pub mod Basics
 pub mod Order
+pub mod Lengths
+pub mod Loop
+pub mod Fields
+pub mod Spellings
 pub mod Replays
 pub mod Clips
 pub mod Logs

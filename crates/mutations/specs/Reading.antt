@@ -1,10 +1,10 @@
 -- Reading a batch: the list that the bytes spell, or the first fault.
-use Rattle.std.specs.Prelude.{ℕ, zero, suc, ◌-◌, List, [], ◌∷◌, length, take, drop, Option, Some, None, Result, Ok, Err, nat_lt, ◌==◌, if◌then◌else◌}
+use Rattle.std.specs.Prelude.{◌≡◌, ◌⊎◌, ℕ, zero, suc, ◌-◌, List, [], ◌∷◌, length, take, drop, Option, Some, None, Result, Ok, Err, nat_lt, ◌==◌, if◌then◌else◌}
 use Rattle.fb_bytes.specs.Bytes.{Bytes, is_below}
 use Rattle.atomic_ops.specs.declared.Op.{Op}
 use Rattle.atomic_ops.specs.Codes.{op_of_code}
 use Rattle.mutations.specs.declared.wire_fault.WireFault.{WireFault}
-use Rattle.mutations.specs.declared.wire_fault.WireFault.TheVariants.{Short, Protocol, Length, Code, Backwards}
+use Rattle.mutations.specs.declared.wire_fault.WireFault.TheVariants.{Short, Protocol, Length, Code, Backwards, NoMemory}
 use Rattle.mutations.specs.declared.mutation.Mutation.TheVariants.{Set, ClearRange, Atomic}
 use Rattle.mutations.specs.declared.mutation.Mutation.{Mutation}
 use Rattle.mutations.specs.Spelling.{protocol}
@@ -61,10 +61,16 @@ header_fault bytes =
     else Some (Length (u32_of (take 4 (drop 8 bytes))) (length bytes - 12)))
     else Some (Protocol (u64_of (take 8 bytes)))
 
--- The list that the bytes spell, or the first fault. Each mutation has a byte at least, so there are no more than bytes.
+-- a reading, unless there is a fault before it
+abbrev pub unless_fault : {A : Type 0} → Option WireFault → Result A WireFault → Result A WireFault
+unless_fault None read = read
+unless_fault (Some fault) read = Err fault
+
+-- The list that the bytes spell, or the first fault. Each mutation has a byte at least, so there are no more of them than bytes.
 abbrev pub decoded : Bytes → Result (List Mutation) WireFault
-decoded bytes = go (header_fault bytes)
-  where
-    go : Option WireFault → Result (List Mutation) WireFault
-    go None = mutations_at (length bytes) (length bytes) (drop 12 bytes)
-    go (Some fault) = Err fault
+decoded bytes = unless_fault (header_fault bytes) (mutations_at (length bytes) (length bytes) (drop 12 bytes))
+
+-- What a call answered, seen by view, is what reading gives, unless memory ran out.
+abbrev pub Gives : {X Y : Type 0} → (X → Y) → Result X WireFault → Result Y WireFault → Type 0
+Gives view (Ok x) read = read ≡ Ok (view x)
+Gives view (Err e) read = (e ≡ NoMemory) ⊎ (read ≡ Err e)

@@ -1,7 +1,7 @@
 //! What holds of all mutations, histories and batches. A call makes the law known to the proof of
 //! its caller, and does nothing when it runs.
 
-ghost use Rattle.mutations.specs.Laws.{UntouchedLaw, TouchLaw, ClipLaw, ReplayJoinLaw, ReplayAppendLaw, AppendLaw, StateLaw, LoggedLaw, LoggedJoinLaw, LoggedAppendLaw, LoggedReplayLaw, LoggedStateLaw, LockLaw};
+ghost use Rattle.mutations.specs.Laws.{UntouchedLaw, TouchLaw, ClipLaw, ReplayJoinLaw, ReplayAppendLaw, AppendLaw, StateLaw, LoggedLaw, LoggedJoinLaw, LoggedAppendLaw, LoggedReplayLaw, LoggedStateLaw, LockLaw, OneSpellingLaw};
 
 /// A mutation leaves each key that it doesn't touch.
 pub fn untouched_law()
@@ -66,4 +66,9 @@ pub fn logged_state_law()
 /// Who holds the lock after one more entry.
 pub fn lock_law()
     ensures { LockLaw }
+{}
+
+/// Lists with one spelling are one list.
+pub fn one_spelling_law()
+    ensures { OneSpellingLaw }
 {}

@@ -1,0 +1,99 @@
+//! How many bytes batches have, counted before anything is built.
+
+ghost use Rattle.std.specs.Prelude.{◌≡◌, ◌+◌, ◌-◌, ◌^◌, ◌<◌, [], ◌∷◌, length, min, if◌then◌else◌};
+ghost use Rattle.std.specs.List.{flat_map};
+ghost use Rattle.fb_bytes.specs.Keys as keys;
+ghost use Rattle.mutations.specs.Effects.{range_of, common};
+ghost use Rattle.mutations.specs.Clipping.{cleared, clipped, all_clipped};
+ghost use Rattle.mutations.specs.Spelling.{mutation_spelling, mutations_spelling};
+
+use crate::Mutation;
+use crate::clipping::{earlier, in_ranges, later};
+use fb_bytes::{Blob, KeyRange, Ranges, is_below};
+
+/// The bytes of a mutation with these strings.
+fn parts_len(first: &Blob, second: &Blob) -> u128
+    ensures sum { result ≡ 12 + length first.now + length second.now }
+    ensures small { result < 2 ^ 66 }
+{
+    12 + first.len() as u128 + second.len() as u128
+}
+
+fn mutation_len(mutation: &Mutation) -> u128
+    ensures sum { result ≡ length (mutation_spelling mutation.now) }
+    ensures small { result < 2 ^ 66 }
+{
+    let (first, second) = mutation.strings();
+    parts_len(first, second)
+}
+
+/// The number of mutation bytes of a batch: all that stand after its length.
+pub fn mutation_bytes(muts: &[Mutation]) -> u128
+    ensures { result ≡ length (mutations_spelling muts.now) }
+{
+    let mut total: u128 = 0;
+    for mutation in muts {
+        total += mutation_len(mutation);
+    }
+    total
+}
+
+/// The bytes of the clear of an intersection, unless that is empty.
+fn cut_len(begin: &Blob, end: &Blob, range: &KeyRange) -> u128
+    ensures { result ≡ length (mutations_spelling (cleared (common (range_of begin.now end.now) range.now))) }
+{
+    let begin = later(begin, &range.begin);
+    let end = earlier(end, &range.end);
+    if is_below(begin.as_slice(), end.as_slice()) {
+        parts_len(begin, end)
+    } else {
+        0
+    }
+}
+
+/// The bytes of the intersections of a clear with the ranges. A count of more than `u128::MAX` stops
+/// there.
+fn cleared_len(begin: &Blob, end: &Blob, ranges: &[KeyRange]) -> u128
+    ensures { result ≡ min (length (mutations_spelling (flat_map (λ range. cleared (common (range_of begin.now end.now) range)) ranges.now))) (2 ^ 128 - 1) }
+{
+    let mut total: u128 = 0;
+    for range in ranges {
+        total = total.saturating_add(cut_len(begin, end, range));
+    }
+    total
+}
+
+/// The bytes of a mutation whose key is in the ranges, or else none.
+fn kept_len(mutation: &Mutation, key: &Blob, ranges: &[KeyRange]) -> u128
+    ensures { result ≡ length (mutations_spelling (if keys.in_ranges ranges.now key.now then mutation.now ∷ [] else [])) }
+{
+    if in_ranges(ranges, key.as_slice()) {
+        mutation_len(mutation)
+    } else {
+        0
+    }
+}
+
+fn clipped_len(mutation: &Mutation, ranges: &[KeyRange]) -> u128
+    ensures { result ≡ min (length (mutations_spelling (clipped ranges.now mutation.now))) (2 ^ 128 - 1) }
+{
+    match mutation {
+        Mutation::Set { key, .. } | Mutation::Atomic { key, .. } => {
+            kept_len(mutation, key, ranges)
+        }
+        Mutation::ClearRange { begin, end } => cleared_len(begin, end, ranges),
+    }
+}
+
+/// The number of mutation bytes of a batch of what clipping leaves of these mutations. A count of
+/// more than `u128::MAX` stops there.
+pub fn clipped_bytes(muts: &[Mutation], ranges: &Ranges) -> u128
+    ensures { result ≡ min (length (mutations_spelling (all_clipped ranges.now muts.now))) (2 ^ 128 - 1) }
+{
+    let ranges = ranges.as_slice();
+    let mut total: u128 = 0;
+    for mutation in muts {
+        total = total.saturating_add(clipped_len(mutation, ranges));
+    }
+    total
+}
