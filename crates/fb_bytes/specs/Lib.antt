@@ -2,3 +2,4 @@ pub mod Bytes
 pub mod Options
 pub mod Keys
 pub mod Pairs
+pub mod Blocks
