@@ -2,3 +2,5 @@ pub mod Bytes
 pub mod Options
 pub mod Keys
 pub mod Pairs
+pub mod RangeFaults
+pub mod Words

@@ -1,0 +1,3 @@
+pub mod Order
+mod Letters
+mod Printing
