@@ -3,4 +3,5 @@ pub mod Options
 pub mod Keys
 pub mod Pairs
 pub mod RangeFaults
+pub mod Joining
 pub mod Words

@@ -41,6 +41,10 @@ abbrev pub IsWordOf : Bytes → Bytes → Type 0
 IsWordOf word [] = word ≡ empty_word
 IsWordOf word (byte ∷ bytes) = AreLettersOf word (byte ∷ bytes)
 
+-- a word spells at most one string of bytes
+abbrev pub OneReading : Type 0
+OneReading = (word a b : Bytes) → IsWordOf word a → IsWordOf word b → a ≡ b
+
 -- the letter that is printed for a byte: itself, where it is plain
 abbrev pub letter_of : ℕ → Bytes
 letter_of byte = if is_plain byte then byte ∷ [] else backslash ∷ 120 ∷ encode_lower (byte ∷ [])

@@ -3,6 +3,7 @@
 
 mod blob;
 mod compare;
+mod joining;
 mod key_range;
 mod names;
 mod pairs;
@@ -18,7 +19,7 @@ pub use key_range::KeyRange;
 pub use names::Names;
 pub use pairs::{Pair, Pairs};
 pub use range_fault::RangeFault;
-pub use ranges::Ranges;
+pub use ranges::{Ranges, one_list};
 pub use text::Text;
 pub use word::{one_reading, print_bytes, read_bytes};
 pub use word_fault::WordFault;

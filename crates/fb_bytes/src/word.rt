@@ -112,5 +112,5 @@ fn hex_byte(high: u8, low: u8) -> Option<u8>
 
 /// A word stands for at most one string of bytes.
 pub fn one_reading()
-    ensures { (word : Bytes) → (a : Bytes) → (b : Bytes) → words.IsWordOf word a → words.IsWordOf word b → a ≡ b }
+    ensures { words.OneReading }
 {}
