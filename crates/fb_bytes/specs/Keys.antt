@@ -44,3 +44,7 @@ pub record AreRanges (ranges : List KeyRange) : Type 0 where
 -- the part of a state that the ranges cover
 abbrev pub cut : (Bytes → Option Bytes) → List KeyRange → Bytes → Option Bytes
 cut state ranges key = if in_ranges ranges key then state key else None
+
+-- two lists of separate ranges that have the same keys are the same list
+abbrev pub KeysTellRanges : Type 0
+KeysTellRanges = (a b : List KeyRange) → AreSeparate a → AreSeparate b → ((key : Bytes) → in_ranges a key ≡ in_ranges b key) → a ≡ b

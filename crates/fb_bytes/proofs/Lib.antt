@@ -1,0 +1,6 @@
+pub mod Order
+mod Letters
+mod Printing
+mod Places
+mod Unions
+mod Separate

@@ -1,0 +1,23 @@
+-- Ranges in order, with one more.
+use Rattle.std.specs.Prelude.{◌≡◌, ◌+◌, ◌≤◌, false, ◌||◌, List, length, if◌then◌else◌}
+use Rattle.std.specs.List.{AllByRecursion}
+use Rattle.fb_bytes.specs.Bytes.{Bytes, is_below}
+use Rattle.fb_bytes.specs.Keys.{KeyRange, holds, in_ranges, is_past_user, AreSeparate}
+
+-- from the lower begin to the greater end
+abbrev pub hull : KeyRange → KeyRange → KeyRange
+hull a b = record {
+  begin = if is_below b.begin a.begin then b.begin else a.begin;
+  end = if is_below a.end b.end then b.end else a.end;
+}
+
+-- these are user ranges
+abbrev pub AreUser : List KeyRange → Type 0
+AreUser = AllByRecursion (λ range. is_past_user range ≡ false)
+
+-- the joined ranges have the keys of these and of one range more, in order again
+pub record Joins (range : KeyRange) (ranges joined : List KeyRange) : Type 0 where
+  pub union : (key : Bytes) → in_ranges joined key ≡ (holds range key || in_ranges ranges key)
+  pub separate : AreSeparate joined
+  pub user : is_past_user range ≡ false → AreUser ranges → AreUser joined
+  pub few : length joined ≤ length ranges + 1
