@@ -1,7 +1,7 @@
 -- Keys and ranges of keys.
 use Rattle.std.specs.Prelude.{◌≡◌, ◌≤◌, Bool, true, false, not, ◌&&◌, ◌||◌, List, [], ◌∷◌, length, Option, None, if◌then◌else◌}
 use Rattle.std.specs.List.{AllByRecursion}
-use Rattle.fb_bytes.specs.declared.key_range.KeyRange.{KeyRange}
+pub use Rattle.fb_bytes.specs.declared.key_range.KeyRange.{KeyRange}
 use Rattle.fb_bytes.specs.Bytes.{Bytes, is_below}
 
 -- the range has the key: from its begin on and before its end

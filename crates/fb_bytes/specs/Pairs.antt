@@ -1,6 +1,6 @@
 -- Pairs of a key and a value, in the order of their keys.
 use Rattle.std.specs.Prelude.{◌≡◌, true, List, [], ◌∷◌, Option, Some, None, if◌then◌else◌}
-use Rattle.fb_bytes.specs.declared.pairs.Pair.{Pair}
+pub use Rattle.fb_bytes.specs.declared.pairs.Pair.{Pair}
 use Rattle.fb_bytes.specs.Bytes.{Bytes, is_below, is_same}
 
 -- the value of a key: that of the first pair with the key
