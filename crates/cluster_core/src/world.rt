@@ -101,6 +101,7 @@ impl<V: Vault> World<V> {
         ensures step { Step self.old.workload.settings self.old.state event.now result self.new.state }
         ensures workload { self.new.workload ≡ self.old.workload }
         ensures faults { self.new.faults ≡ self.old.faults }
+        ensures files { self.new.state.files ≡ self.old.state.files }
         ensures refused { OnErr result (self.new.state ≡ self.old.state) }
         ensures sound { Sound self.new.workload.clients self.new.state }
     {
@@ -143,6 +144,7 @@ impl<V: Vault> World<V> {
         ensures step { begin self.old.state number ≡ moved (Ok result) self.new.state }
         ensures workload { self.new.workload ≡ self.old.workload }
         ensures faults { self.new.faults ≡ self.old.faults }
+        ensures files { self.new.state.files ≡ self.old.state.files }
     {
         match begin_client(&mut self.clients, number, &self.src, &self.versions) {
             Some(version) => Answer::Read { version },
@@ -154,6 +156,7 @@ impl<V: Vault> World<V> {
         ensures step { IfOk result (λ answer. commit self.old.workload.settings self.old.state number ≡ moved (Ok answer) self.new.state) }
         ensures workload { self.new.workload ≡ self.old.workload }
         ensures faults { self.new.faults ≡ self.old.faults }
+        ensures files { self.new.state.files ≡ self.old.state.files }
         ensures refused { OnErr result (self.new.state ≡ self.old.state) }
     {
         let versions = &mut self.versions;
