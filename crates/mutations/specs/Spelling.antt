@@ -46,8 +46,12 @@ mutations_spelling muts = flat_map mutation_spelling muts
 abbrev pub protocol : ℕ
 protocol = 7101
 
+-- mutation bytes behind that number and their length
+abbrev pub framed : Bytes → Bytes
+framed body = u64_bytes protocol ++ u32_bytes (length body) ++ body
+
 abbrev pub batch_spelling : List Mutation → Bytes
-batch_spelling muts = u64_bytes protocol ++ u32_bytes (length (mutations_spelling muts)) ++ mutations_spelling muts
+batch_spelling muts = framed (mutations_spelling muts)
 
 -- a clear has its begin below its end
 abbrev pub IsForward : Mutation → Type 0

@@ -52,15 +52,15 @@ pub fn touches(mutation: &Mutation, range: &KeyRange) -> bool
     match mutation {
         Mutation::Set { key, .. } | Mutation::Atomic { key, .. } => holds(range, key.as_slice()),
         Mutation::ClearRange { begin, end } => {
-            let begin = later(begin, &range.begin);
+            let first = later(begin, &range.begin);
             let end = earlier(end, &range.end);
-            is_below(begin.as_slice(), end.as_slice())
+            is_below(first.as_slice(), end.as_slice())
         }
     }
 }
 
 /// The intersections of a clear with the ranges, but the empty ones.
-fn clip_clear(
+pub fn clip_clear(
     alloc: Global,
     begin: &Blob,
     end: &Blob,
