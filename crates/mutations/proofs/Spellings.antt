@@ -1,9 +1,9 @@
 -- The two laws of reading: what is read is spelled so, and what is spelled so is read.
-use Rattle.std.proofs.Common.{◌≡◌, ℕ, zero, suc, ◌+◌, ◌-◌, ◌*◌, ◌^◌, ◌<◌, ◌≤◌, Bool, true, false, not, cond, eqb, ltb, nat_eq, List, [], ◌∷◌, ◌++◌, length, take, drop, find, Option, Some, None, Result, Ok, Err, inr, refl, sym, ap, subst, ◌∙◌, append_assoc, arith, length-append}
+use Rattle.std.proofs.Common.{◌≡◌, ℕ, zero, suc, ◌+◌, ◌-◌, ◌^◌, ◌<◌, ◌≤◌, Bool, true, false, cond, eqb, ltb, nat_eq, List, [], ◌∷◌, ◌++◌, length, take, drop, find, Option, Some, None, Result, Ok, Err, inr, refl, sym, ap, subst, ◌∙◌, append_assoc, arith, length-append}
 use Rattle.std.specs.Prelude.{IfOk}
 use Rattle.std.specs.List.{AllByRecursion}
 use Rattle.std.proofs.lemmas.Bool.{eqb-true, eq-eqb, ltb-false, le-ltb}
-use Rattle.std.proofs.lemmas.List.{append-nil, take_at, drop_at, take-append-drop, length-take, length-drop, nil_from_length, drop-drop}
+use Rattle.std.proofs.lemmas.List.{take_at, drop_at, take-append-drop, length-take, length-drop, drop-drop}
 use Rattle.fb_bytes.specs.Bytes.{Bytes, IsBytes, is_below}
 use Rattle.atomic_ops.specs.declared.Op.{Op}
 use Rattle.atomic_ops.specs.declared.Op.TheVariants.{Add, And, Or, Xor, AppendIfFits, Max, Min, ByteMin, ByteMax, MinV2, AndV2, CompareAndClear}
@@ -13,13 +13,12 @@ use Rattle.mutations.specs.declared.mutation.Mutation.TheVariants.{Set, ClearRan
 use Rattle.mutations.specs.declared.wire_fault.WireFault.{WireFault}
 use Rattle.mutations.specs.declared.wire_fault.WireFault.TheVariants.{Short, Protocol, Length, Code, Backwards}
 use Rattle.mutations.specs.Spelling.{u32_bytes, u64_bytes, mutation_code, first_string, second_string, parts_spelling, mutation_spelling, mutations_spelling, protocol, framed, batch_spelling, IsForward, HasSpelling}
-use Rattle.mutations.specs.Parts.{u32_of, u64_of, Parts, parts_of}
-use Rattle.mutations.specs.Reading.{◌>>=◌, there_or, clear_at, atomic_at, mutation_of, mutation_at, mutations_at, header_fault, unless_fault, decoded, Gives}
+use Rattle.mutations.specs.Parts.{u32_of, u64_of, parts_of}
+use Rattle.mutations.specs.Reading.{◌>>=◌, there_or, atomic_at, mutation_of, mutation_at, mutations_at, header_fault, unless_fault, decoded, Gives}
 use Rattle.mutations.specs.Laws.{OneSpellingLaw, FirstFaultLaw}
-use Rattle.mutations.proofs.Basics.{not_both}
 use Rattle.mutations.proofs.Lengths.{length-u32_bytes, length-u64_bytes, length-mutation}
 use Rattle.mutations.proofs.Loop.{first_of_rest}
-use Rattle.mutations.proofs.Fields.{Takes, Takes-then, parts_take, parts_again, u32_back, u64_back, u32_again, u64_again, u32_below, IsBytes-take, IsBytes-drop}
+use Rattle.mutations.proofs.Fields.{Takes, parts_take, parts_again, u32_back, u64_back, u32_again, u64_again, u32_below, IsBytes-take, IsBytes-drop}
 
 -- the value of a step that has no fault
 bind_ok : {A B : Type 0} (r : Result A WireFault) (f : A → Result B WireFault) (y : B) → (r >>= f) ≡ Ok y → (x : A) × (r ≡ Ok x) × (f x ≡ Ok y)

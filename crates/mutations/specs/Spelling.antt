@@ -1,7 +1,7 @@
 -- The bytes of a batch: the number 7101, the length of the rest, and the mutations one after the other.
 use Rattle.std.specs.Prelude.{◌≡◌, ℕ, ◌<◌, ◌^◌, true, List, ◌++◌, length}
 use Rattle.std.specs.List.{flat_map, AllByRecursion}
-use Rattle.std.specs.Int.{w32, w64, to_le_bytes, from_le_bytes}
+use Rattle.std.specs.Int.{w32, w64, to_le_bytes}
 use Rattle.fb_bytes.specs.Bytes.{Bytes, is_below}
 use Rattle.atomic_ops.specs.Codes.{code_of}
 use Rattle.mutations.specs.declared.mutation.Mutation.{Mutation}
