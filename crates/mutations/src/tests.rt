@@ -1,8 +1,7 @@
 ghost use Rattle.std.specs.Prelude.{◌≡◌, IfOk};
 
 use super::*;
-use crate::clipping::clip_clear;
-use fb_bytes::{Blob, KeyRange, is_same};
+use fb_bytes::{Blob, KeyRange, RangeFault, Ranges, is_same};
 use std::alloc::{AllocError, Global};
 use std::test::Fail;
 
@@ -129,22 +128,42 @@ fn bytes_that_are_no_batch(rt: HostRuntime) -> Result<(), Fail> {
     Ok(())
 }
 
+fn two_ranges(alloc: Global) -> Result<Ranges, RangeFault> {
+    let list = [range(alloc, b"b", b"c")?, range(alloc, b"x", b"y")?];
+    Ranges::build(alloc, &list)
+}
+
+fn clear(alloc: Global, begin: &[u8], end: &[u8]) -> Result<Mutation, AllocError> {
+    let KeyRange { begin, end } = range(alloc, begin, end)?;
+    Ok(Mutation::ClearRange { begin, end })
+}
+
 #[test]
 fn clear_in_two_ranges(rt: HostRuntime) -> Result<(), Fail> {
-    let alloc = rt.alloc();
-    let a = Blob::from_slice(alloc, b"a")?;
-    let z = Blob::from_slice(alloc, b"z")?;
-    let ranges = [range(alloc, b"b", b"c")?, range(alloc, b"x", b"y")?];
-    let muts = clip_clear(alloc, &a, &z, &ranges)?;
+    let ranges = two_ranges(rt.alloc())?;
+    let clear = clear(rt.alloc(), b"a", b"z")?;
+    let muts = clip(rt.alloc(), &clear, &ranges)?;
     let [first, second] = muts.as_slice() else {
         return Err("two clears".into());
     };
     assert!(rt; is_clear(first, b"b", b"c"));
     assert!(rt; is_clear(second, b"x", b"y"));
-    let clear = Mutation::ClearRange { begin: a, end: z };
-    assert!(rt; touches(&clear, &range(alloc, b"y", b"zz")?));
-    assert!(rt; !touches(&clear, &range(alloc, b"z", b"zz")?));
-    assert!(rt; touches(&set(alloc, b"b", b"")?, &range(alloc, b"b", b"c")?));
+    assert_eq!(rt; clipped_bytes(&[clear], &ranges), 28);
+    Ok(())
+}
+
+#[test]
+fn touched_ranges(rt: HostRuntime) -> Result<(), Fail> {
+    let clear = clear(rt.alloc(), b"a", b"c")?;
+    let rows: [(&[u8], &[u8], bool); 3] = [
+        (b"b", b"d", true),
+        (b"c", b"d", false),
+        (b"b", b"b", false),
+    ];
+    for (begin, end, touched) in rows {
+        let range = range(rt.alloc(), begin, end)?;
+        assert_eq!(rt; touches(&clear, &range), touched);
+    }
     Ok(())
 }
 
