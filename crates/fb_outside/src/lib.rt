@@ -1,8 +1,11 @@
 //! What the program takes its input from, writes its output to and keeps its files in.
 #![tactic(auto)]
 
+mod calls;
 mod fault;
 mod files;
+mod mem_sink;
+mod mem_source;
 mod reading;
 mod sink;
 mod source;
@@ -11,6 +14,8 @@ mod writing;
 
 pub use fault::{Failed, VaultFail};
 pub use files::{File, Files};
+pub use mem_sink::MemSink;
+pub use mem_source::MemSource;
 pub use reading::{ReadFault, read_all};
 pub use sink::Sink;
 pub use source::Source;
