@@ -3,3 +3,4 @@ pub mod Contents
 pub mod Faults
 pub mod Files
 pub mod Memory
+pub mod Told
