@@ -109,6 +109,7 @@ impl Files {
     pub fn put(&mut self, file: File) -> Result<(), AllocError>
         ensures ok { OnOk result (self.new ≡ with_file self.old file.name file.bytes) }
         ensures err { OnErr result (self.new ≡ self.old) }
+        ensures files { AreFiles self.new }
     {
         let at = place_of(&self.files, file.name.as_bytes());
         if is_at(&self.files, at, file.name.as_bytes()) {
@@ -121,14 +122,16 @@ impl Files {
 
     /// Takes the file of that name away, where there is one. It takes no memory.
     pub fn delete(&mut self, name: &[u8])
-        ensures { self.new ≡ without_file self.old name.now }
+        ensures deleted { self.new ≡ without_file self.old name.now }
+        ensures files { AreFiles self.new }
     {
         remove_name(&mut self.files, name);
     }
 
     /// An equal list with memory of its own.
     pub fn copy(&self, alloc: Global) -> Result<Self, AllocError>
-        ensures { IfOk result (λ files. files ≡ self.now) }
+        ensures same { IfOk result (λ files. files ≡ self.now) }
+        ensures files { IfOk result (λ files. AreFiles files) }
     {
         let mut files = Vec::new(alloc);
         for file in &self.files {

@@ -43,3 +43,9 @@ invariant_of-self-in-Continue-1 c =
     let name = c.args.file.name in
     let put = returns-in_ok-insert-clause-ok c ∙ ap (λ fs. with_file fs name c.args.file.bytes) (sym c.self.view_is) in
     subst AreFiles (sym put) (files_after_put files name c.args.file.bytes c.self.invariant)
+
+pub returns-then-is_at-clause-files : goal.returns-then-is_at-clause-files
+returns-then-is_at-clause-files c = invariant_of-self c
+
+pub returns-in_ok-insert-clause-files : goal.returns-in_ok-insert-clause-files
+returns-in_ok-insert-clause-files c = invariant_of-self-in-Continue-1 c
