@@ -1,8 +1,12 @@
 //! What the program takes its input from, writes its output to and keeps its files in.
 #![tactic(auto)]
 
+mod calls;
 mod fault;
 mod files;
+mod mem_sink;
+mod mem_source;
+mod mem_vault;
 mod reading;
 mod sink;
 mod source;
@@ -11,6 +15,9 @@ mod writing;
 
 pub use fault::{Failed, VaultFail};
 pub use files::{File, Files};
+pub use mem_sink::MemSink;
+pub use mem_source::MemSource;
+pub use mem_vault::MemVault;
 pub use reading::{ReadFault, read_all};
 pub use sink::Sink;
 pub use source::Source;
