@@ -3,4 +3,5 @@ pub mod Contents
 pub mod Faults
 pub mod Files
 pub mod Memory
+pub mod Parts
 pub mod Told

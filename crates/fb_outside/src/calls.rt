@@ -90,7 +90,7 @@ impl Calls {
     }
 }
 
-fn counted(count: u64) -> u64
+pub fn counted(count: u64) -> u64
     ensures { result ≡ calls.counted count }
 {
     if count == u64::MAX { count } else { count + 1 }
