@@ -47,3 +47,6 @@ fn words_of<R: Env + AllocGlobal>(rt: &R) -> io::Result<Vec<Text>> {
     }
     Ok(words)
 }
+
+#[cfg(test)]
+mod tests;

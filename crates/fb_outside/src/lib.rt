@@ -28,3 +28,6 @@ pub use source::Source;
 pub use stream::{ReaderSource, WriterSink};
 pub use vault::Vault;
 pub use writing::write_all;
+
+#[cfg(test)]
+mod tests;
