@@ -111,3 +111,21 @@ pub not_over_short : (s rest : Bytes) → length s < 2 ^ 32 → is_over (string 
 not_over_short s rest lt e =
     let other = eqb-false _ 255 e in
     elim (cases_lt (length s) (255 * 2 ^ 24)) [ inl below ↦ below | inr above ↦ absurd (other (omega arith)) ]
+
+-- a string takes its length and itself
+pub string_size : (bytes : Bytes) (x : Bytes × Bytes) → string_at bytes ≡ Some x → 4 + length x.0 + length x.1 ≡ length bytes
+unfolding string_at
+string_size bytes x e =
+    let a = bind_some (split 4 bytes) (λ cut. split (from_be_bytes w32 cut.0) cut.1) x e in
+    let s = split_found 4 bytes a.0 a.1 in
+    let t = split_found (from_be_bytes w32 a.0.0) a.0.1 x a.2 in
+    omega (arith, ap length s.parts, length-append a.0.0 a.0.1, s.len, ap length t.parts, length-append x.0 x.1)
+
+pub header_size : (bytes : Bytes) (x : ℕ × Bytes) → header_at bytes ≡ Some x → 4 + length x.1 ≡ length bytes
+unfolding header_at
+header_size bytes x e =
+    let a = bind_some (split 4 bytes) (λ cut. Some (from_le_bytes w32 cut.0, cut.1)) x e in
+    let s = split_found 4 bytes a.0 a.1 in
+    let made : ℕ × Bytes = (from_le_bytes w32 a.0.0, a.0.1) in
+    let is : made ≡ x = cc in
+    subst (λ (y : ℕ × Bytes). 4 + length y.1 ≡ length bytes) is (omega (arith, ap length s.parts, length-append a.0.0 a.0.1, s.len))

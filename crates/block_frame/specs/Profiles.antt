@@ -1,6 +1,7 @@
 -- The four profiles: a size of blocks, and what fits its blocks.
-use Rattle.std.specs.Prelude.{ℕ, ◌+◌, ◌*◌, ◌^◌, ◌<◌, ◌≤◌, Bool, List, [], ◌∷◌, Option, Some, None, is_some, ◌==◌, if◌then◌else◌}
+use Rattle.std.specs.Prelude.{ℕ, ◌+◌, ◌*◌, ◌^◌, ◌<◌, ◌≤◌, List, [], ◌∷◌, Option, Some, None, ◌==◌, if◌then◌else◌}
 use Rattle.std.specs.List.{AllByRecursion}
+pub use Rattle.fb_bytes.specs.Blocks.{is_block}
 
 -- a row of the table: the greatest length of a key, of a value, and of a part of a batch
 pub record Row : Type 0 where
@@ -24,9 +25,6 @@ row_among (row ∷ others) block = if row.block == block then Some row else row_
 -- the row of a block, if the table has one
 abbrev pub row_of : ℕ → Option Row
 row_of block = row_among rows block
-
-abbrev pub is_block : ℕ → Bool
-is_block block = is_some (row_of block)
 
 abbrev pub field_of : (Row → ℕ) → Option Row → ℕ
 field_of field None = 0

@@ -1,6 +1,5 @@
 -- The version that a commit takes is the next one.
-use Rattle.std.specs.Prelude.{◌≡◌, ℕ, ◌+◌, ◌≤◌, Bool, true, false, List, [], ◌∷◌, Option, Some, None, Result, Ok, Err, if◌then◌else◌, nat_lt, refl}
-use Rattle.std.proofs.Common.{ap, sym, ◌∙◌, arith}
+use Rattle.std.specs.Prelude.{◌≡◌, ℕ, ◌+◌, ◌≤◌, Bool, true, false, List, [], ◌∷◌, Option, Some, None, Ok, Err, if◌then◌else◌, nat_lt, refl}
 use Rattle.std.proofs.lemmas.Bool.{ltb-false}
 use Rattle.block_frame.specs.Profiles.{key_limit_of, limit_of}
 use Rattle.mutations.specs.declared.Mutation.{Mutation}

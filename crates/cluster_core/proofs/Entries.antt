@@ -1,7 +1,7 @@
 -- One more entry, and one more outcome.
-use Rattle.std.specs.Prelude.{◌≡◌, ◌≢◌, ℕ, zero, suc, ◌+◌, ◌<◌, ◌≤◌, Bool, true, false, List, [], ◌∷◌, ◌++◌, length, Option, Some, None, slice_get, if◌then◌else◌, nat_eq, refl}
+use Rattle.std.specs.Prelude.{◌≡◌, ℕ, ◌+◌, ◌<◌, Bool, true, false, List, [], ◌∷◌, ◌++◌, length, Some, None, slice_get, refl}
 use Rattle.std.specs.List.{AllByRecursion}
-use Rattle.std.proofs.Common.{ap, sym, ◌∙◌, arith, subst, append_assoc, cond}
+use Rattle.std.proofs.Common.{ap, sym, ◌∙◌, arith, append_assoc, cond}
 use Rattle.mutations.specs.declared.Entry.{Entry}
 use Rattle.mutations.specs.declared.Batch.{Batch}
 use Rattle.mutations.specs.declared.TxOp.{TxOp}

@@ -3,3 +3,4 @@ pub mod Entries
 pub mod Answered
 pub mod Steps
 pub mod Openings
+pub mod Worlds

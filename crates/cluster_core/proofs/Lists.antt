@@ -1,5 +1,5 @@
 -- Clients in their list, by number.
-use Rattle.std.specs.Prelude.{◌≡◌, ◌≢◌, ℕ, zero, suc, ◌+◌, ◌<◌, Bool, true, false, List, [], ◌∷◌, ◌++◌, map, length, Option, Some, None, ◌⊎◌, slice_get, slice_set, nat_eq, refl}
+use Rattle.std.specs.Prelude.{◌≡◌, ◌≢◌, ℕ, zero, suc, List, [], ◌∷◌, map, Some, ◌⊎◌, slice_get, slice_set, refl}
 use Rattle.std.proofs.Common.{ap, sym, ◌∙◌, inl, inr, arith, subst}
 use Rattle.client_core.specs.Clients.{ClientState}
 use Rattle.cluster_core.specs.State.{client_at, put_client}
@@ -49,6 +49,6 @@ scripts_put clients (suc n) old new h e = map_set_same (λ (client : ClientState
 pub each_put : (P : ℕ → ClientState → Type 0) (clients : List ClientState) (n : ℕ) (old new : ClientState) → client_at clients n ≡ Some old → P n new → ((m : ℕ) (c : ClientState) → n ≢ m → client_at clients m ≡ Some c → P m c) → (m : ℕ) (c : ClientState) → client_at (put_client clients n new) m ≡ Some c → P m c
 each_put P clients n old new at here there m c h =
     elim (same_or_other n m) [
-      inl e ↦ subst (λ (k : ℕ). client_at (put_client clients n new) k ≡ Some c → P k c) e (λ g. let same : new ≡ c = cc (put_same clients n old new at) in subst (λ (x : ClientState). P n x) same here) h
+      | inl e ↦ subst (λ (k : ℕ). client_at (put_client clients n new) k ≡ Some c → P k c) e (λ g. let same : new ≡ c = cc (put_same clients n old new at) in subst (λ (x : ClientState). P n x) same here) h
       | inr d ↦ there m c d (sym (put_other clients n m new d) ∙ h)
     ]

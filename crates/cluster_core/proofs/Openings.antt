@@ -1,8 +1,7 @@
 -- The opening state is sound.
-use Rattle.std.specs.Prelude.{◌≡◌, ℕ, zero, suc, ◌+◌, ◌≤◌, Bool, true, false, ◌&&◌, List, [], ◌∷◌, map, length, Option, Some, None, slice_get, nat_eq, refl}
+use Rattle.std.specs.Prelude.{◌≡◌, ℕ, zero, suc, ◌+◌, true, List, [], ◌∷◌, map, Some, slice_get, nat_eq, refl}
 use Rattle.std.proofs.Common.{ap, sym, ◌∙◌, arith, subst}
 use Rattle.std.proofs.lemmas.Bool.{eqb-true, and_parts}
-use Rattle.fb_outside.specs.declared.File.{File}
 use Rattle.workload_text.specs.declared.ClientScript.{ClientScript}
 use Rattle.workload_text.specs.declared.Workload.{Workload}
 use Rattle.workload_text.specs.declared.Side.{Side}
@@ -10,8 +9,8 @@ use Rattle.workload_text.specs.declared.Side.TheVariants.{Src, Dst}
 use Rattle.workload_text.specs.Scripts.{are_numbered}
 use Rattle.client_core.specs.Clients.{ClientState, new_client}
 use Rattle.client_core.specs.Legal.{entries_by}
-use Rattle.cluster_core.specs.State.{State, on_side, client_at, opening}
-use Rattle.cluster_core.specs.Sound.{IsOrdered, other_side, IsClientSound, Sound}
+use Rattle.cluster_core.specs.State.{on_side, client_at}
+use Rattle.cluster_core.specs.Sound.{IsOrdered, other_side, IsClientSound}
 use Rattle.cluster_core.specs.Laws.{OpeningLaw}
 
 -- the client at a place is new, and numbered by its place

@@ -1,7 +1,6 @@
 -- Each step keeps what is sound.
-use Rattle.std.specs.Prelude.{◌≡◌, ◌≢◌, ℕ, zero, suc, ◌+◌, ◌<◌, ◌≤◌, Bool, true, false, List, [], ◌∷◌, ◌++◌, map, length, Option, Some, None, ◌⊎◌, Result, Ok, Err, slice_get, nat_eq, refl}
-use Rattle.std.specs.List.{AllByRecursion}
-use Rattle.std.proofs.Common.{ap, sym, ◌∙◌, arith, subst, inl, inr, cond, length-append}
+use Rattle.std.specs.Prelude.{◌≡◌, ℕ, ◌+◌, ◌<◌, ◌≤◌, Bool, List, [], ◌∷◌, ◌++◌, length, Option, Some, None, slice_get, refl}
+use Rattle.std.proofs.Common.{ap, sym, ◌∙◌, arith, subst, cond, length-append}
 use Rattle.std.proofs.lemmas.Bool.{eq-eqb, ne_eqb}
 use Rattle.fb_bytes.specs.Options.{◌>>=◌}
 use Rattle.mutations.specs.declared.Entry.{Entry}
@@ -17,15 +16,15 @@ use Rattle.workload_text.specs.declared.Side.TheVariants.{Src, Dst}
 use Rattle.database.specs.Commits.{commit_answer, history_after, time_after, most_version}
 use Rattle.client_core.specs.declared.Outcome.{Outcome}
 use Rattle.client_core.specs.Ends.{end_of, version_of}
-use Rattle.client_core.specs.Clients.{ClientState, begun_at, begun_client, next_ops, who_of, after_try, Try, try_with, try_of, commit_try}
-use Rattle.client_core.specs.Legal.{is_by, entries_by, entry_of, committed, Follow, IsLegal}
+use Rattle.client_core.specs.Clients.{ClientState, begun_at, begun_client, next_ops, after_try, try_of}
+use Rattle.client_core.specs.Legal.{is_by, entries_by, entry_of, committed, IsLegal}
 use Rattle.cluster_core.specs.declared.event.Event.{Event}
 use Rattle.cluster_core.specs.declared.event.Event.TheVariants.{Begin, Commit}
 use Rattle.cluster_core.specs.State.{State, on_side, history_on, with_history, client_at, put_client}
-use Rattle.cluster_core.specs.Step.{Luck, Fine, Starved, begin_with, begin, after, commit_with, try_in, commit, event_gives, step, Moved, moved, Step, Turn, Run}
-use Rattle.cluster_core.specs.Sound.{IsOrdered, other_side, IsClientSound, scripts_of, Sound}
+use Rattle.cluster_core.specs.Step.{Luck, Fine, Starved, begin_with, commit_with, try_in, event_gives, step, Moved}
+use Rattle.cluster_core.specs.Sound.{IsOrdered, other_side, IsClientSound, Sound}
 use Rattle.cluster_core.specs.Laws.{StepLaw, RunLaw}
-use Rattle.cluster_core.proofs.Lists.{put_same, put_other, scripts_put, each_put}
+use Rattle.cluster_core.proofs.Lists.{scripts_put, each_put}
 use Rattle.cluster_core.proofs.Entries.{append_nil, entries_by-append, committed-snoc, Follow-snoc, All-snoc, All-weaker, IsRising-snoc}
 use Rattle.cluster_core.proofs.Answered.{IsNext, answer_is_next}
 
@@ -45,7 +44,7 @@ begin_keeps scripts w n c None (Some ops) at h = begun_keeps scripts w n c w.tim
 begin_keeps scripts w n c None None at h = h
 begin_keeps scripts w n c (Some read) ops at h = h
 
-begin_of_keeps : (scripts : List ClientScript) (w : State) (n : ℕ) (o : Option ClientState) → client_at w.clients n ≡ o → Sound scripts w → Sound scripts (begin_with w n (o >>= begun_client w.time)).state
+pub begin_of_keeps : (scripts : List ClientScript) (w : State) (n : ℕ) (o : Option ClientState) → client_at w.clients n ≡ o → Sound scripts w → Sound scripts (begin_with w n (o >>= begun_client w.time)).state
 begin_of_keeps scripts w n None at h = h
 begin_of_keeps scripts w n (Some c) at h = begin_keeps scripts w n c c.begun (next_ops c) at h
 
@@ -147,14 +146,14 @@ ended_keeps pace scripts w n c ops outcome o at next place attempt end is_next p
             apart = ap (entries_by n) (there c.script.side w history) ∙ k.apart;
           })
           (λ m d differ e.
-            let q : IsClientSound w.src w.dst m d = h.clients m d e in
-            let same : entries_by m history ≡ entries_by m (on_side c.script.side w.src w.dst) = other_entries m c.script.number outcome.place (writes_of ops) o (history_on c.script.side w) (λ f. differ (sym k.numbered ∙ f)) in
-            record {
-              numbered = q.numbered;
-              placed = q.placed;
-              legal = record { follow = q.legal.follow; entries = same_entries m c.script.side d.script.side w history same ∙ q.legal.entries };
-              apart = same_entries m c.script.side (other_side d.script.side) w history same ∙ q.apart;
-            });
+          let q : IsClientSound w.src w.dst m d = h.clients m d e in
+          let same : entries_by m history ≡ entries_by m (on_side c.script.side w.src w.dst) = other_entries m c.script.number outcome.place (writes_of ops) o (history_on c.script.side w) (λ f. differ (sym k.numbered ∙ f)) in
+          record {
+            numbered = q.numbered;
+            placed = q.placed;
+            legal = record { follow = q.legal.follow; entries = same_entries m c.script.side d.script.side w history same ∙ q.legal.entries };
+            apart = same_entries m c.script.side (other_side d.script.side) w history same ∙ q.apart;
+          });
     }
 
 try_keeps : (s : Settings) (scripts : List ClientScript) (w : State) (n : ℕ) (c : ClientState) (begun : Option ℕ) (ops : Option (List TxOp)) → client_at w.clients n ≡ Some c → next_ops c ≡ ops → Sound scripts w → Sound scripts (commit_with w n (begun >>= λ read. ops >>= λ found. Some (try_of s.block w.time s.pace (history_on c.script.side w) c read found))).state
@@ -170,7 +169,7 @@ commit_keeps s scripts w n (Some c) at h = try_keeps s scripts w n c c.begun (ne
 
 -- ---- all together
 
-event_keeps : (s : Settings) (scripts : List ClientScript) (w : State) (event : Event) → Sound scripts w → Sound scripts (event_gives s w event).state
+pub event_keeps : (s : Settings) (scripts : List ClientScript) (w : State) (event : Event) → Sound scripts w → Sound scripts (event_gives s w event).state
 event_keeps s scripts w (Begin n) h = begin_of_keeps scripts w n (client_at w.clients n) refl h
 event_keeps s scripts w (Commit n) h = commit_keeps s scripts w n (client_at w.clients n) refl h
 

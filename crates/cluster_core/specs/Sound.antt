@@ -1,5 +1,5 @@
 -- What each step keeps.
-use Rattle.std.specs.Prelude.{◌≡◌, ℕ, ◌≤◌, List, [], map, length, Option, Some, is_some}
+use Rattle.std.specs.Prelude.{◌≡◌, ℕ, ◌≤◌, List, [], map, length, Some}
 use Rattle.std.specs.List.{AllByRecursion}
 use Rattle.mutations.specs.declared.Entry.{Entry}
 use Rattle.mutations.specs.Histories.{IsRising}

@@ -1,12 +1,15 @@
 -- What contracts see of the world.
-use Rattle.std.specs.Prelude.{◌≡◌, ℕ, List, Option, Some}
+use Rattle.std.specs.Prelude.{◌≡◌, ℕ, List, Option, Some, None}
 use Rattle.fb_outside.specs.declared.File.{File}
 use Rattle.versioned_kv.specs.declared.Versions.{Versions}
 use Rattle.workload_text.specs.declared.Workload.{Workload}
 use Rattle.database.specs.Commits.{Database}
 use Rattle.fb_bytes.specs.Options.{◌>>=◌}
-use Rattle.mutations.specs.declared.Entry.{Entry}
 use Rattle.workload_text.specs.declared.Side.{Side}
+use Rattle.client_core.specs.declared.Outcome.{Outcome}
+use Rattle.cluster_core.specs.declared.event.Answer.{Answer}
+use Rattle.cluster_core.specs.declared.event.Answer.TheVariants.{Nothing}
+use Rattle.cluster_core.specs.declared.event.Answer.TheVariants as answers
 use Rattle.client_core.specs.Clients.{ClientState, begun_client, Try, commit_try}
 use Rattle.cluster_core.specs.State.{State, client_at}
 use Rattle.cluster_core.specs.Sound.{Sound}
@@ -39,3 +42,8 @@ tried_in clients number db versions = client_at clients number >>= commit_try db
 -- the side of the client of that number
 abbrev pub side_in : List ClientState → ℕ → Option Side
 side_in clients number = client_at clients number >>= λ client. Some client.script.side
+
+-- a try's outcome as an answer
+abbrev pub answer_of : Option Outcome → Answer
+answer_of None = Nothing
+answer_of (Some outcome) = answers.Outcome outcome

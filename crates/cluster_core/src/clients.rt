@@ -4,7 +4,7 @@ ghost use Rattle.workload_text.specs.declared.Settings.{Settings};
 ghost use Rattle.client_core.specs.Clients.{ClientState, new_client};
 ghost use Rattle.cluster_core.specs.State.{put_client};
 ghost use Rattle.cluster_core.specs.Step.{commit, moved};
-ghost use Rattle.cluster_core.specs.World.{state_of, begun_in, tried_in, side_in};
+ghost use Rattle.cluster_core.specs.World.{state_of, begun_in, tried_in, side_in, answer_of};
 
 use crate::{Answer, StepFault};
 use client_core::{Client, Outcome};
@@ -35,8 +35,8 @@ pub fn begin_client(
     ensures { MatchOption result
         ((begun_in clients.old number versions.entry.now.now ≡ None) × (clients.new ≡ clients.old))
         (λ read. (read ≡ versions.entry.now.now) × ((client : ClientState)
-            × (begun_in clients.old number versions.entry.now.now ≡ Some client)
-            × (clients.new ≡ put_client clients.old number client))) }
+        × (begun_in clients.old number versions.entry.now.now ≡ Some client)
+        × (clients.new ≡ put_client clients.old number client))) }
 {
     if number == 0 {
         return None;
@@ -62,14 +62,26 @@ pub fn commit_client(
     ensures pace { versions.new.pace ≡ versions.old.pace }
     ensures err { OnErr result ((clients.new ≡ clients.old) × (src.new ≡ src.old) × (dst.new ≡ dst.old) × (versions.new ≡ versions.old)) }
 {
-    let tried = match side_of(clients, number) {
-        Some(Side::Src) => try_client(clients, number, src, versions)?,
-        Some(Side::Dst) => try_client(clients, number, dst, versions)?,
-        None => None,
-    };
-    match tried {
-        Some(outcome) => Ok(Answer::Outcome(outcome)),
+    match side_of(clients, number) {
+        Some(Side::Src) => {
+            let tried = try_client(clients, number, src, versions)?;
+            Ok(answer_of(tried))
+        }
+        Some(Side::Dst) => {
+            let tried = try_client(clients, number, dst, versions)?;
+            Ok(answer_of(tried))
+        }
         None => Ok(Answer::Nothing),
+    }
+}
+
+// A try's outcome as an answer.
+fn answer_of(tried: Option<Outcome>) -> Answer
+    ensures { result ≡ answer_of tried }
+{
+    match tried {
+        Some(outcome) => Answer::Outcome(outcome),
+        None => Answer::Nothing,
     }
 }
 
@@ -95,11 +107,11 @@ fn try_client(
 ) -> Result<Option<Outcome>, AllocError>
     ensures ok { IfOk result (λ outcome. MatchOption outcome
         ((tried_in clients.old number db.old versions.old ≡ None)
-            × (clients.new ≡ clients.old) × (db.new ≡ db.old) × (versions.new ≡ versions.old))
+        × (clients.new ≡ clients.old) × (db.new ≡ db.old) × (versions.new ≡ versions.old))
         (λ outcome. (client : ClientState)
-            × (tried_in clients.old number db.old versions.old
-                ≡ Some (record { outcome = outcome; client = client; history = db.new.history; time = versions.new.now }))
-            × (clients.new ≡ put_client clients.old number client))) }
+        × (tried_in clients.old number db.old versions.old
+        ≡ Some (record { outcome = outcome; client = client; history = db.new.history; time = versions.new.now }))
+        × (clients.new ≡ put_client clients.old number client))) }
     ensures same { (db.new.block ≡ db.old.block) × (versions.new.pace ≡ versions.old.pace) }
     ensures err { OnErr result ((clients.new ≡ clients.old) × (db.new ≡ db.old) × (versions.new ≡ versions.old)) }
 {

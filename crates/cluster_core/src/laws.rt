@@ -3,17 +3,14 @@ ghost use Rattle.cluster_core.specs.Laws.{OpeningLaw, StepLaw, RunLaw};
 /// The opening state of each workload is sound.
 pub fn opening_law()
     ensures { OpeningLaw }
-{
-}
+{}
 
 /// Each step of the machine keeps what is sound, refused or not.
 pub fn step_law()
     ensures { StepLaw }
-{
-}
+{}
 
 /// So every run keeps it.
 pub fn run_law()
     ensures { RunLaw }
-{
-}
+{}

@@ -6,6 +6,6 @@ mod event;
 mod laws;
 mod world;
 
-pub use laws::{opening_law, run_law, step_law};
 pub use event::{Answer, Event, StepFault};
+pub use laws::{opening_law, run_law, step_law};
 pub use world::{OpenFault, Parts, World};

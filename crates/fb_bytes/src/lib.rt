@@ -25,3 +25,6 @@ pub use seq::{Seq, TryCopy};
 pub use text::Text;
 pub use word::{one_reading, print_bytes, read_bytes};
 pub use word_fault::WordFault;
+
+#[cfg(test)]
+mod tests;

@@ -1,1 +1,4 @@
 pub mod Fronts
+pub mod Filing
+mod Folders
+mod Telling

@@ -1,6 +1,6 @@
 -- The files of a store, as a list in byte order of the names.
-use Rattle.std.specs.Prelude.{◌≡◌, Bool, true, nat_eq, List, [], ◌∷◌, ◌++◌, Option, Some, None, if◌then◌else◌}
-use Rattle.std.specs.List.{starts_with}
+use Rattle.std.specs.Prelude.{◌≡◌, Bool, true, not, nat_eq, List, [], ◌∷◌, ◌++◌, map, Option, Some, None, if◌then◌else◌}
+use Rattle.std.specs.List.{filter, starts_with}
 use Rattle.fb_bytes.specs.Bytes.{Bytes, is_below, is_same}
 pub use Rattle.fb_outside.specs.declared.files.File.{File}
 
@@ -29,8 +29,7 @@ with_file (file ∷ files) name bytes =
 
 -- the files without that name
 abbrev pub without_file : List File → Bytes → List File
-without_file [] name = []
-without_file (file ∷ files) name = if is_same file.name name then without_file files name else file ∷ without_file files name
+without_file files name = filter (λ file. not (is_same file.name name)) files
 
 -- the name begins with the folder and a slash; under the empty folder stands every name
 abbrev pub is_under : Bytes → Bytes → Bool
@@ -39,5 +38,4 @@ is_under (byte ∷ folder) name = starts_with nat_eq name ((byte ∷ folder) ++ 
 
 -- the names under a folder, in the order of the files
 abbrev pub names_in : Bytes → List File → List Bytes
-names_in folder [] = []
-names_in folder (file ∷ files) = if is_under folder file.name then file.name ∷ names_in folder files else names_in folder files
+names_in folder files = map (λ file. file.name) (filter (λ file. is_under folder file.name) files)

@@ -1,3 +1,7 @@
+pub mod Calls
 pub mod Contents
 pub mod Faults
 pub mod Files
+pub mod Memory
+pub mod Parts
+pub mod Told

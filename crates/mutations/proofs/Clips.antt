@@ -8,11 +8,12 @@ use Rattle.fb_bytes.specs.Keys.{holds, in_ranges, is_backwards}
 use Rattle.atomic_ops.specs.Operation.{operation}
 use Rattle.mutations.specs.declared.mutation.Mutation.{Mutation}
 use Rattle.mutations.specs.declared.mutation.Mutation.TheVariants.{Set, ClearRange, Atomic}
-use Rattle.mutations.specs.Effects.{range_of, effect, effects, touches_key, common, touches}
+use Rattle.mutations.specs.Effects.{range_of, effect, effects, common}
 use Rattle.mutations.specs.Clipping.{cleared, clipped, all_clipped}
 use Rattle.mutations.specs.Laws.{UntouchedLaw, TouchLaw, ClipLaw}
-use Rattle.mutations.proofs.Basics.{not_both, not_false}
-use Rattle.mutations.proofs.Order.{same_eq, same_itself, holds_common, holds_backwards, holds_begin}
+use Rattle.mutations.proofs.Basics.{not_both}
+use Rattle.fb_bytes.proofs.Order.{same_eq, same_itself}
+use Rattle.mutations.proofs.Intersections.{holds_common, holds_backwards, holds_begin}
 
 pub untouched : UntouchedLaw
 untouched limit (Set k value) key old h = ap (λ t. cond t (Some value) old) h

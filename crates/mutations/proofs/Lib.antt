@@ -1,5 +1,5 @@
 pub mod Basics
-pub mod Order
+pub mod Intersections
 pub mod Lengths
 pub mod Loop
 pub mod Fields

@@ -1,7 +1,7 @@
 -- What a log keeps of a history.
 use Rattle.std.proofs.Common.{◌≡◌, ℕ, ◌≤◌, ◌<◌, min, max, Bool, true, false, ◌&&◌, cond, List, [], ◌∷◌, ◌++◌, Option, ⊎_elim, refl, sym, ap, ◌∙◌, arith, nat_lt, nat_le, if◌then◌else◌}
 use Rattle.std.specs.List.{AllByRecursion}
-use Rattle.std.proofs.lemmas.Bool.{cases_lt, and_parts}
+use Rattle.std.proofs.lemmas.Bool.{cases_lt}
 use Rattle.std.proofs.lemmas.Bool.Decides.{nat_tests}
 use Rattle.fb_bytes.specs.declared.KeyRange.{KeyRange}
 use Rattle.fb_bytes.specs.Bytes.{Bytes}
@@ -13,9 +13,9 @@ use Rattle.mutations.specs.Effects.{effects}
 use Rattle.mutations.specs.Clipping.{all_clipped}
 use Rattle.mutations.specs.Replay.{is_within, replayed, AreRising}
 use Rattle.mutations.specs.Histories.{batches_of, IsRising, with_batch, logged}
-use Rattle.mutations.specs.Laws.{LoggedJoinLaw, LoggedAppendLaw, IsLog, LoggedLaw, LoggedReplayLaw}
+use Rattle.mutations.specs.Laws.{LoggedJoinLaw, LoggedAppendLaw, LoggedLaw, LoggedReplayLaw}
 use Rattle.mutations.proofs.Basics.{by_test, all_weaker, and_swap}
-use Rattle.mutations.proofs.Replays.{within_is, below_within, above_within, upper_out, lower_out}
+use Rattle.mutations.proofs.Replays.{below_within, above_within, upper_out, lower_out}
 use Rattle.mutations.proofs.Clips.{clips_same}
 
 -- ---- two spans of versions

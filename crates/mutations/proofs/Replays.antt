@@ -1,10 +1,9 @@
 -- Replaying batches in pieces.
-use Rattle.std.proofs.Common.{◌≡◌, ℕ, ◌<◌, ◌≤◌, min, max, true, false, ◌&&◌, List, [], ◌∷◌, ◌++◌, Option, ⊎_elim, refl, sym, ap, ◌∙◌, arith, nat_lt, nat_le}
+use Rattle.std.proofs.Common.{◌≡◌, ℕ, ◌<◌, ◌≤◌, true, false, ◌&&◌, List, [], ◌∷◌, ◌++◌, Option, ⊎_elim, refl, sym, ap, ◌∙◌, arith, nat_lt, nat_le}
 use Rattle.std.specs.List.{AllByRecursion}
 use Rattle.std.proofs.lemmas.Bool.{cases_lt, and_from, and_left, and_right, le-leb, lt-leb, lt-ltb, le-ltb}
 use Rattle.fb_bytes.specs.Bytes.{Bytes}
 use Rattle.mutations.specs.declared.batch.Batch.{Batch}
-use Rattle.mutations.specs.Effects.{effects}
 use Rattle.mutations.specs.Replay.{is_within, replayed, AreRising}
 use Rattle.mutations.proofs.Basics.{all_weaker, all_so}
 

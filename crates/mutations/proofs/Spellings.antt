@@ -1,9 +1,9 @@
 -- The two laws of reading: what is read is spelled so, and what is spelled so is read.
-use Rattle.std.proofs.Common.{◌≡◌, ℕ, zero, suc, ◌+◌, ◌-◌, ◌*◌, ◌^◌, ◌<◌, ◌≤◌, Bool, true, false, not, cond, eqb, ltb, nat_eq, List, [], ◌∷◌, ◌++◌, length, take, drop, find, Option, Some, None, Result, Ok, Err, inr, refl, sym, ap, subst, ◌∙◌, append_assoc, arith, length-append}
+use Rattle.std.proofs.Common.{◌≡◌, ℕ, zero, suc, ◌+◌, ◌-◌, ◌^◌, ◌<◌, ◌≤◌, Bool, true, false, cond, eqb, ltb, nat_eq, List, [], ◌∷◌, ◌++◌, length, take, drop, find, Option, Some, None, Result, Ok, Err, inr, refl, sym, ap, subst, ◌∙◌, append_assoc, arith, length-append}
 use Rattle.std.specs.Prelude.{IfOk}
 use Rattle.std.specs.List.{AllByRecursion}
 use Rattle.std.proofs.lemmas.Bool.{eqb-true, eq-eqb, ltb-false, le-ltb}
-use Rattle.std.proofs.lemmas.List.{append-nil, take_at, drop_at, take-append-drop, length-take, length-drop, nil_from_length, drop-drop}
+use Rattle.std.proofs.lemmas.List.{take_at, drop_at, take-append-drop, length-take, length-drop, drop-drop}
 use Rattle.fb_bytes.specs.Bytes.{Bytes, IsBytes, is_below}
 use Rattle.atomic_ops.specs.declared.Op.{Op}
 use Rattle.atomic_ops.specs.declared.Op.TheVariants.{Add, And, Or, Xor, AppendIfFits, Max, Min, ByteMin, ByteMax, MinV2, AndV2, CompareAndClear}
@@ -12,14 +12,13 @@ use Rattle.mutations.specs.declared.mutation.Mutation.{Mutation}
 use Rattle.mutations.specs.declared.mutation.Mutation.TheVariants.{Set, ClearRange, Atomic}
 use Rattle.mutations.specs.declared.wire_fault.WireFault.{WireFault}
 use Rattle.mutations.specs.declared.wire_fault.WireFault.TheVariants.{Short, Protocol, Length, Code, Backwards}
-use Rattle.mutations.specs.Spelling.{u32_bytes, u64_bytes, mutation_code, first_string, second_string, parts_spelling, mutation_spelling, mutations_spelling, protocol, batch_spelling, IsForward, HasSpelling}
-use Rattle.mutations.specs.Parts.{u32_of, u64_of, Parts, parts_of}
-use Rattle.mutations.specs.Reading.{◌>>=◌, there_or, clear_at, atomic_at, mutation_of, mutation_at, mutations_at, header_fault, unless_fault, decoded, Gives}
-use Rattle.mutations.specs.Laws.{OneSpellingLaw}
-use Rattle.mutations.proofs.Basics.{not_both}
+use Rattle.mutations.specs.Spelling.{u32_bytes, u64_bytes, mutation_code, first_string, second_string, parts_spelling, mutation_spelling, mutations_spelling, protocol, framed, batch_spelling, IsForward, HasSpelling}
+use Rattle.mutations.specs.Parts.{u32_of, u64_of, parts_of}
+use Rattle.mutations.specs.Reading.{◌>>=◌, there_or, atomic_at, mutation_of, mutation_at, mutations_at, header_fault, unless_fault, decoded, Gives}
+use Rattle.mutations.specs.Laws.{OneSpellingLaw, FirstFaultLaw}
 use Rattle.mutations.proofs.Lengths.{length-u32_bytes, length-u64_bytes, length-mutation}
 use Rattle.mutations.proofs.Loop.{first_of_rest}
-use Rattle.mutations.proofs.Fields.{Takes, Takes-then, parts_take, parts_again, u32_back, u64_back, u32_again, u64_again, u32_below, IsBytes-take, IsBytes-drop}
+use Rattle.mutations.proofs.Fields.{Takes, parts_take, parts_again, u32_back, u64_back, u32_again, u64_again, u32_below, IsBytes-take, IsBytes-drop}
 
 -- the value of a step that has no fault
 bind_ok : {A B : Type 0} (r : Result A WireFault) (f : A → Result B WireFault) (y : B) → (r >>= f) ≡ Ok y → (x : A) × (r ≡ Ok x) × (f x ≡ Ok y)
@@ -212,33 +211,58 @@ decoded_takes bytes ms fits e =
     let whole : bytes ≡ batch_spelling ms = in_two bytes fits h ∙ (λ i. u64_bytes protocol ++ u32_bytes (sym len i) ++ t.0 i) in
     (record { few = few; forward = t.1 }, whole)
 
-spelled_header : (ms : List Mutation) → HasSpelling ms → IsHeader (batch_spelling ms) × (drop 12 (batch_spelling ms) ≡ mutations_spelling ms)
-spelled_header ms h =
-    let body = mutations_spelling ms in
+-- what stands before mutation bytes has no fault
+framed_header : (body : Bytes) → length body < 2 ^ 32 → IsHeader (framed body) × (drop 12 (framed body) ≡ body) × (length (framed body) ≡ 12 + length body)
+framed_header body few =
     let first = u64_bytes protocol in
     let second = u32_bytes (length body) in
     let a : length first ≡ 8 = length-u64_bytes protocol in
     let b : length second ≡ 4 = length-u32_bytes (length body) in
     let both : length (first ++ second) ≡ 12 = omega (arith, length-append first second) in
-    let len : length (batch_spelling ms) ≡ 12 + length body = length-append (first ++ second) body ∙ ap (λ n. n + length body) both in
-    let grouped : batch_spelling ms ≡ first ++ (second ++ body) = append_assoc first second body in
-    let front : take 8 (batch_spelling ms) ≡ first = ap (take 8) grouped ∙ take_at first (second ++ body) 8 a in
-    let back : drop 8 (batch_spelling ms) ≡ second ++ body = ap (drop 8) grouped ∙ drop_at first (second ++ body) 8 a in
-    let middle : take 4 (drop 8 (batch_spelling ms)) ≡ second = ap (take 4) back ∙ take_at second body 4 b in
-    let rest : drop 12 (batch_spelling ms) ≡ body = drop_at (first ++ second) body 12 both in (
-      record {
-        long = omega (arith, len);
-        begins = ap u64_of front ∙ u64_again protocol (omega arith);
-        said = ap u32_of middle ∙ u32_again (length body) h.few ∙ (let minus : length body ≡ length (batch_spelling ms) - 12 = omega (arith, len) in minus);
-      },
-      rest,
-    )
+    let len : length (framed body) ≡ 12 + length body = length-append (first ++ second) body ∙ ap (λ n. n + length body) both in
+    let grouped : framed body ≡ first ++ (second ++ body) = append_assoc first second body in
+    let front : take 8 (framed body) ≡ first = ap (take 8) grouped ∙ take_at first (second ++ body) 8 a in
+    let back : drop 8 (framed body) ≡ second ++ body = ap (drop 8) grouped ∙ drop_at first (second ++ body) 8 a in
+    let middle : take 4 (drop 8 (framed body)) ≡ second = ap (take 4) back ∙ take_at second body 4 b in
+    let rest : drop 12 (framed body) ≡ body = drop_at (first ++ second) body 12 both in
+    let minus : length body ≡ length (framed body) - 12 = omega (arith, len) in
+    let header : IsHeader (framed body) = record {
+      long = omega (arith, len);
+      begins = ap u64_of front ∙ u64_again protocol (omega arith);
+      said = ap u32_of middle ∙ u32_again (length body) few ∙ minus;
+    } in
+    (header, rest, len)
+
+framed_is : (body : Bytes) → length body < 2 ^ 32 → decoded (framed body) ≡ mutations_at (12 + length body) (12 + length body) body
+framed_is body few =
+    let f = framed_header body few in
+    ap (λ fault. unless_fault fault (mutations_at (length (framed body)) (length (framed body)) (drop 12 (framed body)))) (header_ok (framed body) f.0)
+    ∙ (λ i. mutations_at (f.2 i) (f.2 i) (f.1 i))
 
 pub decoded_again : (ms : List Mutation) → HasSpelling ms → decoded (batch_spelling ms) ≡ Ok ms
-decoded_again ms h =
-    let s = spelled_header ms h in
-    let len : length (mutations_spelling ms) ≤ length (batch_spelling ms) = omega (arith, ap length s.1, length-drop 12 (batch_spelling ms)) in
-    rw (header_ok (batch_spelling ms) s.0, s.1) (mutations_again (length (batch_spelling ms)) (length (batch_spelling ms)) ms len h.few h.forward)
+decoded_again ms h = framed_is (mutations_spelling ms) h.few ∙ mutations_again (12 + length (mutations_spelling ms)) (12 + length (mutations_spelling ms)) ms (omega arith) h.few h.forward
+
+-- the first fault, after mutations that are spelled well
+faulty : (most total : ℕ) (ms : List Mutation) (rest : Bytes) (fault : WireFault) → AllByRecursion IsForward ms → 0 < length rest → length (mutations_spelling ms ++ rest) ≤ most → length (mutations_spelling ms ++ rest) < 2 ^ 32 → mutation_at (total - length rest) rest ≡ Err fault → mutations_at most total (mutations_spelling ms ++ rest) ≡ Err fault
+faulty zero total [] rest fault forward some le few e = absurd (omega arith)
+faulty (suc most) total [] rest fault forward some le few e = first_of_rest most total rest some le ∙ rw e refl
+faulty zero total (m ∷ ms) rest fault forward some le few e = absurd (omega (arith, length-append (mutations_spelling (m ∷ ms)) rest))
+faulty (suc most) total (m ∷ ms) rest fault forward some le few e =
+    let grouped : mutations_spelling (m ∷ ms) ++ rest ≡ mutation_spelling m ++ (mutations_spelling ms ++ rest) = append_assoc (mutation_spelling m) (mutations_spelling ms) rest in
+    let len = ap length grouped ∙ length-append (mutation_spelling m) (mutations_spelling ms ++ rest) in
+    let one = length-mutation m in
+    let there_is : 0 < length (mutation_spelling m ++ (mutations_spelling ms ++ rest)) = omega (arith, length-append (mutation_spelling m) (mutations_spelling ms ++ rest)) in
+    let fits : length (mutation_spelling m ++ (mutations_spelling ms ++ rest)) ≤ suc most = omega (arith, length-append (mutation_spelling m) (mutations_spelling ms ++ rest)) in
+    ap (mutations_at (suc most) total) grouped
+    ∙ first_of_rest most total (mutation_spelling m ++ (mutations_spelling ms ++ rest)) there_is fits
+    ∙ rw (mutation_again (total - length (mutation_spelling m ++ (mutations_spelling ms ++ rest))) m (mutations_spelling ms ++ rest) forward.0 (omega arith), faulty most total ms rest fault forward.1 some (omega arith) (omega arith) e) refl
+
+pub first_fault : FirstFaultLaw
+first_fault muts rest fault forward some few e =
+    let body = mutations_spelling muts ++ rest in
+    let before : 12 + length body - length rest ≡ 12 + length (mutations_spelling muts) = omega (arith, length-append (mutations_spelling muts) rest) in
+    framed_is body few
+    ∙ faulty (12 + length body) (12 + length body) muts rest fault forward some (omega arith) few (ap (λ at. mutation_at at rest) before ∙ e)
 
 pub one_spelling : OneSpellingLaw
 one_spelling first second h g e = ok_is first second (sym (decoded_again first h) ∙ ap decoded e ∙ decoded_again second g)

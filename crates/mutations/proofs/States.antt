@@ -1,14 +1,12 @@
 -- The states of a history, and who holds its lock.
-use Rattle.std.proofs.Common.{◌≡◌, ℕ, ◌+◌, ◌-◌, ◌<◌, ◌≤◌, min, max, true, cond, List, [], ◌∷◌, ◌++◌, map, Option, None, refl, sym, ap, ◌∙◌, arith}
-use Rattle.fb_bytes.specs.declared.KeyRange.{KeyRange}
+use Rattle.std.proofs.Common.{◌≡◌, ℕ, ◌+◌, ◌-◌, min, max, cond, List, [], ◌∷◌, ◌++◌, Option, None, refl, ap, ◌∙◌, arith}
 use Rattle.fb_bytes.specs.Bytes.{Bytes}
-use Rattle.fb_bytes.specs.Keys.{in_ranges}
 use Rattle.mutations.specs.declared.batch.Batch.{Batch}
 use Rattle.mutations.specs.declared.history.Entry.{Entry}
 use Rattle.mutations.specs.Effects.{effects}
 use Rattle.mutations.specs.Replay.{is_within, replayed}
-use Rattle.mutations.specs.Histories.{batch_of, batches_of, IsRising, state_at, logged, lock_after, locked_since}
-use Rattle.mutations.specs.Laws.{ReplayJoinLaw, ReplayAppendLaw, Appends, AppendLaw, StateLaw, LoggedStateLaw, LockLaw}
+use Rattle.mutations.specs.Histories.{batch_of, batches_of, state_at, lock_after, locked_since}
+use Rattle.mutations.specs.Laws.{ReplayJoinLaw, ReplayAppendLaw, AppendLaw, StateLaw, LoggedStateLaw, LockLaw}
 use Rattle.mutations.proofs.Replays.{within_is, above_within, replayed_join, replayed_append}
 use Rattle.mutations.proofs.Logs.{logged_same}
 

@@ -1,5 +1,5 @@
 -- What holds of all mutations, histories and batches.
-use Rattle.std.specs.Prelude.{◌≡◌, ℕ, ◌+◌, ◌-◌, ◌<◌, ◌≤◌, ◌↔◌, min, max, true, false, List, [], ◌∷◌, ◌++◌, Option}
+use Rattle.std.specs.Prelude.{◌≡◌, ℕ, ◌+◌, ◌-◌, ◌<◌, ◌≤◌, ◌^◌, ◌↔◌, min, max, true, false, List, [], ◌∷◌, ◌++◌, length, Option, Err}
 use Rattle.std.specs.List.{AllByRecursion}
 use Rattle.fb_bytes.specs.declared.KeyRange.{KeyRange}
 use Rattle.fb_bytes.specs.Bytes.{Bytes}
@@ -7,11 +7,13 @@ use Rattle.fb_bytes.specs.Keys.{holds, in_ranges}
 use Rattle.mutations.specs.declared.mutation.Mutation.{Mutation}
 use Rattle.mutations.specs.declared.batch.Batch.{Batch}
 use Rattle.mutations.specs.declared.history.Entry.{Entry}
+use Rattle.mutations.specs.declared.wire_fault.WireFault.{WireFault}
 use Rattle.mutations.specs.Effects.{effect, effects, touches_key, touches}
 use Rattle.mutations.specs.Clipping.{all_clipped}
 use Rattle.mutations.specs.Replay.{is_within, replayed, AreRising}
 use Rattle.mutations.specs.Histories.{batches_of, IsRising, state_at, logged, lock_after, locked}
-use Rattle.mutations.specs.Spelling.{batch_spelling, HasSpelling}
+use Rattle.mutations.specs.Spelling.{mutations_spelling, framed, batch_spelling, IsForward, HasSpelling}
+use Rattle.mutations.specs.Reading.{mutation_at, decoded}
 
 -- a mutation leaves each key that it doesn't touch
 abbrev pub UntouchedLaw : Type 0
@@ -81,3 +83,7 @@ LockLaw = (history : List Entry) (entry : Entry) → locked (history ++ entry �
 -- lists with one spelling are one list
 abbrev pub OneSpellingLaw : Type 0
 OneSpellingLaw = (first second : List Mutation) → HasSpelling first → HasSpelling second → batch_spelling first ≡ batch_spelling second → first ≡ second
+
+-- after mutations that are spelled well the fault is that of what comes next, at the number of bytes before it
+abbrev pub FirstFaultLaw : Type 0
+FirstFaultLaw = (muts : List Mutation) (rest : Bytes) (fault : WireFault) → AllByRecursion IsForward muts → 0 < length rest → length (mutations_spelling muts ++ rest) < 2 ^ 32 → mutation_at (12 + length (mutations_spelling muts)) rest ≡ Err fault → decoded (framed (mutations_spelling muts ++ rest)) ≡ Err fault

@@ -1,7 +1,7 @@
 -- The bytes of a batch: the number 7101, the length of the rest, and the mutations one after the other.
 use Rattle.std.specs.Prelude.{◌≡◌, ℕ, ◌<◌, ◌^◌, true, List, ◌++◌, length}
 use Rattle.std.specs.List.{flat_map, AllByRecursion}
-use Rattle.std.specs.Int.{w32, w64, to_le_bytes, from_le_bytes}
+use Rattle.std.specs.Int.{w32, w64, to_le_bytes}
 use Rattle.fb_bytes.specs.Bytes.{Bytes, is_below}
 use Rattle.atomic_ops.specs.Codes.{code_of}
 use Rattle.mutations.specs.declared.mutation.Mutation.{Mutation}
@@ -46,8 +46,12 @@ mutations_spelling muts = flat_map mutation_spelling muts
 abbrev pub protocol : ℕ
 protocol = 7101
 
+-- mutation bytes behind that number and their length
+abbrev pub framed : Bytes → Bytes
+framed body = u64_bytes protocol ++ u32_bytes (length body) ++ body
+
 abbrev pub batch_spelling : List Mutation → Bytes
-batch_spelling muts = u64_bytes protocol ++ u32_bytes (length (mutations_spelling muts)) ++ mutations_spelling muts
+batch_spelling muts = framed (mutations_spelling muts)
 
 -- a clear has its begin below its end
 abbrev pub IsForward : Mutation → Type 0

@@ -1,29 +1,11 @@
 ghost use Rattle.std.specs.Prelude.{◌≡◌, IfOk};
 ghost use Rattle.std.specs.List.{flat_map};
-ghost use Rattle.fb_bytes.specs.Keys as keys;
 ghost use Rattle.mutations.specs.Effects as effects;
 ghost use Rattle.mutations.specs.Clipping.{cleared, clipped};
 
 use crate::{Mutation, Muts};
 use fb_bytes::{Blob, KeyRange, Ranges, is_below};
 use std::alloc::{AllocError, Global};
-
-fn holds(range: &KeyRange, key: &[u8]) -> bool
-    ensures { result ≡ keys.holds range.now key.now }
-{
-    !is_below(key, range.begin.as_slice()) && is_below(key, range.end.as_slice())
-}
-
-pub fn in_ranges(ranges: &[KeyRange], key: &[u8]) -> bool
-    ensures { result ≡ keys.in_ranges ranges.now key.now }
-{
-    for range in ranges {
-        if holds(range, key) {
-            return true;
-        }
-    }
-    false
-}
 
 pub fn later<'a>(a: &'a Blob, b: &'a Blob) -> &'a Blob
     ensures { result.now ≡ effects.later a.now b.now }
@@ -50,17 +32,17 @@ pub fn touches(mutation: &Mutation, range: &KeyRange) -> bool
     ensures { result ≡ effects.touches mutation.now range.now }
 {
     match mutation {
-        Mutation::Set { key, .. } | Mutation::Atomic { key, .. } => holds(range, key.as_slice()),
+        Mutation::Set { key, .. } | Mutation::Atomic { key, .. } => range.contains(key.as_slice()),
         Mutation::ClearRange { begin, end } => {
-            let begin = later(begin, &range.begin);
+            let first = later(begin, &range.begin);
             let end = earlier(end, &range.end);
-            is_below(begin.as_slice(), end.as_slice())
+            is_below(first.as_slice(), end.as_slice())
         }
     }
 }
 
 /// The intersections of a clear with the ranges, but the empty ones.
-fn clip_clear(
+pub fn clip_clear(
     alloc: Global,
     begin: &Blob,
     end: &Blob,
@@ -89,7 +71,7 @@ pub fn clip(alloc: Global, mutation: &Mutation, ranges: &Ranges) -> Result<Muts,
     match mutation {
         Mutation::Set { key, .. } | Mutation::Atomic { key, .. } => {
             let mut muts = Muts::new(alloc);
-            if in_ranges(ranges.as_slice(), key.as_slice()) {
+            if ranges.contains(key.as_slice()) {
                 muts.push(mutation.copy()?)?;
             }
             Ok(muts)

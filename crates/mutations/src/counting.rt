@@ -8,7 +8,7 @@ ghost use Rattle.mutations.specs.Clipping.{cleared, clipped, all_clipped};
 ghost use Rattle.mutations.specs.Spelling.{mutation_spelling, mutations_spelling};
 
 use crate::Mutation;
-use crate::clipping::{earlier, in_ranges, later};
+use crate::clipping::{earlier, later};
 use fb_bytes::{Blob, KeyRange, Ranges, is_below};
 
 /// The bytes of a mutation with these strings.
@@ -64,24 +64,24 @@ fn cleared_len(begin: &Blob, end: &Blob, ranges: &[KeyRange]) -> u128
 }
 
 /// The bytes of a mutation whose key is in the ranges, or else none.
-fn kept_len(mutation: &Mutation, key: &Blob, ranges: &[KeyRange]) -> u128
+fn kept_len(mutation: &Mutation, key: &Blob, ranges: &Ranges) -> u128
     ensures { result ≡ length (mutations_spelling (if keys.in_ranges ranges.now key.now then mutation.now ∷ [] else [])) }
 {
-    if in_ranges(ranges, key.as_slice()) {
+    if ranges.contains(key.as_slice()) {
         mutation_len(mutation)
     } else {
         0
     }
 }
 
-fn clipped_len(mutation: &Mutation, ranges: &[KeyRange]) -> u128
+fn clipped_len(mutation: &Mutation, ranges: &Ranges) -> u128
     ensures { result ≡ min (length (mutations_spelling (clipped ranges.now mutation.now))) (2 ^ 128 - 1) }
 {
     match mutation {
         Mutation::Set { key, .. } | Mutation::Atomic { key, .. } => {
             kept_len(mutation, key, ranges)
         }
-        Mutation::ClearRange { begin, end } => cleared_len(begin, end, ranges),
+        Mutation::ClearRange { begin, end } => cleared_len(begin, end, ranges.as_slice()),
     }
 }
 
@@ -90,7 +90,6 @@ fn clipped_len(mutation: &Mutation, ranges: &[KeyRange]) -> u128
 pub fn clipped_bytes(muts: &[Mutation], ranges: &Ranges) -> u128
     ensures { result ≡ min (length (mutations_spelling (all_clipped ranges.now muts.now))) (2 ^ 128 - 1) }
 {
-    let ranges = ranges.as_slice();
     let mut total: u128 = 0;
     for mutation in muts {
         total = total.saturating_add(clipped_len(mutation, ranges));

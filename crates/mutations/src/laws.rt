@@ -1,7 +1,7 @@
 //! What holds of all mutations, histories and batches. A call makes the law known to the proof of
 //! its caller, and does nothing when it runs.
 
-ghost use Rattle.mutations.specs.Laws.{UntouchedLaw, TouchLaw, ClipLaw, ReplayJoinLaw, ReplayAppendLaw, AppendLaw, StateLaw, LoggedLaw, LoggedJoinLaw, LoggedAppendLaw, LoggedReplayLaw, LoggedStateLaw, LockLaw, OneSpellingLaw};
+ghost use Rattle.mutations.specs.Laws.{UntouchedLaw, TouchLaw, ClipLaw, ReplayJoinLaw, ReplayAppendLaw, AppendLaw, StateLaw, LoggedLaw, LoggedJoinLaw, LoggedAppendLaw, LoggedReplayLaw, LoggedStateLaw, LockLaw, OneSpellingLaw, FirstFaultLaw};
 
 /// A mutation leaves each key that it doesn't touch.
 pub fn untouched_law()
@@ -71,4 +71,9 @@ pub fn lock_law()
 /// Lists with one spelling are one list.
 pub fn one_spelling_law()
     ensures { OneSpellingLaw }
+{}
+
+/// After mutations that are spelled well the fault is that of what comes next.
+pub fn first_fault_law()
+    ensures { FirstFaultLaw }
 {}

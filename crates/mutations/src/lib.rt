@@ -22,12 +22,15 @@ pub use decoding::decode_batch;
 pub use encoding::encode_batch;
 pub use history::{Entry, History, Who};
 pub use laws::{
-    append_law, clip_law, lock_law, logged_append_law, logged_join_law, logged_law,
-    logged_replay_law, logged_state_law, one_spelling_law, replay_append_law, replay_join_law,
-    state_law, touch_law, untouched_law,
+    append_law, clip_law, first_fault_law, lock_law, logged_append_law, logged_join_law,
+    logged_law, logged_replay_law, logged_state_law, one_spelling_law, replay_append_law,
+    replay_join_law, state_law, touch_law, untouched_law,
 };
 pub use mutation::Mutation;
 pub use muts::Muts;
 pub use tx_fault::{TxFault, fault_of};
 pub use tx_op::{TxOp, TxOps};
 pub use wire_fault::WireFault;
+
+#[cfg(test)]
+mod tests;

@@ -1,53 +1,11 @@
--- The order of keys, and the intersection of two ranges.
-use Rattle.std.proofs.Common.{◌≡◌, Bool, true, false, not, ◌&&◌, refl, sym, ap, ◌∙◌, Ordering, Less, Equal, Greater, is_lt, nat_cmp}
-use Rattle.std.specs.Ordering.{ordering_reverse}
-use Rattle.std.specs.Cmp.Lexicographic.{slice_cmp, bytes_decides}
-use Rattle.std.proofs.lemmas.Cmp.{nat_list_cmp_total, alike_right, tied_itself}
+-- The intersection of two ranges.
+use Rattle.std.proofs.Common.{◌≡◌, Bool, true, false, not, ◌&&◌, refl, ap, ◌∙◌, Ordering, Less, Equal, Greater, is_lt, nat_cmp}
 use Rattle.fb_bytes.specs.declared.KeyRange.{KeyRange}
 use Rattle.fb_bytes.specs.Bytes.{Bytes, is_below, is_same}
 use Rattle.fb_bytes.specs.Keys.{holds, is_backwards}
 use Rattle.mutations.specs.Effects.{later, earlier, common}
+use Rattle.fb_bytes.proofs.Order.{below_trans, below_up, below_itself}
 use Rattle.mutations.proofs.Basics.{by_test, not_both, and_swap, not_true}
-
-below_less : (x y : Bytes) → is_below x y ≡ true → slice_cmp nat_cmp x y ≡ Less
-unfolding is_below
-below_less x y h = go (slice_cmp nat_cmp x y) h
-  where
-    go : (o : Ordering) → is_lt o ≡ true → o ≡ Less
-    go Less e = refl
-    go Equal e = not_both e refl
-    go Greater e = not_both e refl
-
-less_below : (x y : Bytes) → slice_cmp nat_cmp x y ≡ Less → is_below x y ≡ true
-unfolding is_below
-less_below x y h = ap is_lt h
-
-pub below_trans : (x y z : Bytes) → is_below x y ≡ true → is_below y z ≡ true → is_below x z ≡ true
-below_trans x y z h g = less_below x z (nat_list_cmp_total.trans x y z (below_less x y h) (below_less y z g))
-
--- z is no more than y
-pub below_up : (x y z : Bytes) → is_below x z ≡ true → is_below y z ≡ false → is_below x y ≡ true
-unfolding is_below
-below_up x y z h g = go (slice_cmp nat_cmp y z) refl
-  where
-    go : (o : Ordering) → slice_cmp nat_cmp y z ≡ o → is_below x y ≡ true
-    go Less e = not_both (ap is_lt e) g
-    go Equal e = ap is_lt (alike_right nat_list_cmp_total y z x e ∙ below_less x z h)
-    go Greater e = less_below x y (nat_list_cmp_total.trans x z y (below_less x z h) (nat_list_cmp_total.antisymm z y ∙ ap ordering_reverse e))
-
-pub same_eq : (x y : Bytes) → is_same x y ≡ true → x ≡ y
-unfolding is_same
-same_eq x y h = (bytes_decides x y).0 h
-
-pub same_itself : (x : Bytes) → is_same x x ≡ true
-unfolding is_same
-same_itself x = (bytes_decides x x).1 refl
-
-pub below_itself : (x : Bytes) → is_below x x ≡ false
-unfolding is_below
-below_itself x = ap is_lt (tied_itself nat_list_cmp_total x)
-
--- ---- the intersection of two ranges
 
 later_below : (a b k : Bytes) → not (is_below k (later a b)) ≡ (not (is_below k a) && not (is_below k b))
 later_below a b k = by_test (is_below a b) (λ z. not (is_below k z) ≡ (not (is_below k a) && not (is_below k b))) b a (λ h. is_b h (is_below k b) (is_below k a) refl refl) (λ h. is_a h (is_below k b) (is_below k a) refl refl)

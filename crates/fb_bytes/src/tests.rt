@@ -1,0 +1,56 @@
+use crate::{Blob, KeyRange, RangeFault, Ranges, print_bytes, read_bytes};
+use std::alloc::{AllocError, Global};
+use std::test::Fail;
+
+fn range(alloc: Global, begin: &[u8], end: &[u8]) -> Result<KeyRange, AllocError> {
+    Ok(KeyRange {
+        begin: Blob::from_slice(alloc, begin)?,
+        end: Blob::from_slice(alloc, end)?,
+    })
+}
+
+#[test]
+fn ranges_that_overlap_are_joined(rt: HostRuntime) -> Result<(), Fail> {
+    let alloc = rt.alloc();
+    let mut list = Vec::new(alloc);
+    list.push(range(alloc, b"m", b"z")?)?;
+    list.push(range(alloc, b"a", b"n")?)?;
+    let ranges = Ranges::build(alloc, &list)?;
+    assert_eq!(rt; ranges.len(), 1);
+    assert!(rt; ranges.contains(b"a"));
+    assert!(rt; ranges.contains(b"y"));
+    assert!(rt; !ranges.contains(b"z"));
+    Ok(())
+}
+
+#[test]
+fn a_list_that_is_no_ranges_is_refused(rt: HostRuntime) -> Result<(), Fail> {
+    let alloc = rt.alloc();
+    let mut list = Vec::new(alloc);
+    assert!(rt; matches!(Ranges::build(alloc, &list), Err(RangeFault::Empty)));
+    list.push(range(alloc, b"b", b"a")?)?;
+    let refused = matches!(
+        Ranges::build(alloc, &list),
+        Err(RangeFault::Backwards { index: 0 })
+    );
+    assert!(rt; refused);
+    Ok(())
+}
+
+#[test]
+fn bytes_are_printed_and_read(rt: HostRuntime) -> Result<(), Fail> {
+    let alloc = rt.alloc();
+    for (bytes, word) in [
+        (b"a~".as_slice(), "a~"),
+        (b"\x00\\\xff".as_slice(), "\\x00\\x5c\\xff"),
+        (b"".as_slice(), "\\e"),
+    ] {
+        let printed = print_bytes(alloc, bytes)?;
+        assert_eq!(rt; printed.as_str(), word);
+        let read = read_bytes(alloc, word.as_bytes())?;
+        assert_eq!(rt; read.as_slice(), bytes);
+    }
+    let upper = read_bytes(alloc, b"\\xFF\\x61")?;
+    assert_eq!(rt; upper.as_slice(), b"\xffa".as_slice());
+    Ok(())
+}

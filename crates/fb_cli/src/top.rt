@@ -1,0 +1,112 @@
+ghost use Rattle.std.specs.Prelude.{◌≡◌, Option, IfOk};
+ghost use Rattle.fb_cli.specs.declared.fault.Fault.{Fault};
+ghost use Rattle.fb_cli.specs.Shows.{is_replay, Commands, Shows, shown, report_part};
+
+use crate::fault::{Fault, push_refusal, status_of};
+use crate::replay::{Ended, refused, replay};
+use fb_bytes::Text;
+use fb_outside::{Sink, Source, Vault, write_all};
+use report_text::{Report, report_bytes};
+use std::alloc::{AllocError, Global};
+
+/// How the program ends: its status, what it had to tell, and the file store.
+#[derive(Drop)]
+pub struct Exit<V> {
+    pub status: u8,
+    pub report: Option<Report>,
+    pub vault: V,
+}
+
+/// Does what the words say, and writes the report and then the line of a refusal to the sink.
+pub fn top<S: Source, V: Vault, K: Sink>(
+    alloc: Global,
+    words: &[Text],
+    source: &mut S,
+    vault: V,
+    sink: &mut K,
+) -> Exit<V>
+    ensures command { (fault : Option Fault)
+        × Commands words.now (S.left source.old) (S.left source.new) (S.faults source.old) (S.faults source.new) (V.files vault) result.report fault
+        × Shows (K.held sink.old) (K.held sink.new) (K.faults sink.old) (K.faults sink.new) result.report fault result.status }
+    ensures files { V.files result.vault ≡ V.files vault }
+    ensures vault_faults { V.faults result.vault ≡ V.faults vault }
+{
+    let ended = command(alloc, words, source, vault);
+    let status = show(alloc, sink, &ended.report, ended.fault);
+    let Ended {
+        status: _,
+        report,
+        fault: _,
+        vault,
+    } = ended;
+    Exit {
+        status,
+        report,
+        vault,
+    }
+}
+
+// The command that the words name.
+fn command<S: Source, V: Vault>(
+    alloc: Global,
+    words: &[Text],
+    source: &mut S,
+    vault: V,
+) -> Ended<V>
+    ensures commands { Commands words.now (S.left source.old) (S.left source.new) (S.faults source.old) (S.faults source.new) (V.files vault) result.report result.fault }
+    ensures files { V.files result.vault ≡ V.files vault }
+    ensures vault_faults { V.faults result.vault ≡ V.faults vault }
+{
+    if is_replay(words) {
+        replay(alloc, source, vault)
+    } else {
+        refused(Fault::NotBuilt { line: 0 }, vault)
+    }
+}
+
+fn is_replay(words: &[Text]) -> bool
+    ensures { result ≡ is_replay words.now }
+{
+    match words {
+        [word] => fb_bytes::is_same(word.as_bytes(), b"replay"),
+        _ => false,
+    }
+}
+
+// Writes what a command tells, and answers the status.
+fn show<K: Sink>(alloc: Global, sink: &mut K, report: &Option<Report>, fault: Option<Fault>) -> u8
+    ensures { Shows (K.held sink.old) (K.held sink.new) (K.faults sink.old) (K.faults sink.new) report.now fault result }
+{
+    match shown(alloc, report, fault) {
+        Ok(text) => match write_all(sink, text.as_slice()) {
+            Ok(()) => status_of(fault),
+            Err(_) => status_of(Some(Fault::SinkFault)),
+        },
+        Err(AllocError) => status_of(Some(Fault::NoMemory)),
+    }
+}
+
+// The report, and then the line of a refusal.
+fn shown(
+    alloc: Global,
+    report: &Option<Report>,
+    fault: Option<Fault>,
+) -> Result<Vec<u8>, AllocError>
+    ensures { IfOk result (λ text. text.items ≡ shown report.now fault) }
+{
+    let mut text = report_text(alloc, report)?;
+    push_refusal(&mut text, fault)?;
+    Ok(text)
+}
+
+fn report_text(alloc: Global, report: &Option<Report>) -> Result<Vec<u8>, AllocError>
+    ensures { IfOk result (λ text. text.items ≡ report_part report.now) }
+{
+    match report {
+        Some(report) => {
+            let text = report_bytes(alloc, report, false)?;
+            Ok(text.into_vec())
+        }
+        None => Ok(Vec::new(alloc)),
+    }
+}

@@ -1,0 +1,5 @@
+pub mod Steps
+pub mod Items
+pub mod Order
+pub mod Blocks
+pub mod Files
