@@ -1,1 +1,7 @@
 pub mod Scripts
+pub mod Texts
+pub mod Lines
+pub mod Parts
+pub mod Grammar
+pub mod Spelled
+pub mod Reader

@@ -2,11 +2,18 @@
 #![tactic(auto)]
 
 mod client_script;
+mod line;
+mod pieces;
+mod reader;
+mod reading;
 mod schedule;
 mod settings;
+mod text_fault;
 mod workload;
 
 pub use client_script::{ClientScript, Side};
+pub use reading::read_workload;
 pub use schedule::ScheduleLine;
 pub use settings::Settings;
+pub use text_fault::TextFault;
 pub use workload::Workload;

@@ -1,10 +1,9 @@
 ghost use Rattle.std.specs.Prelude.{◌≡◌, true};
 ghost use Rattle.workload_text.specs.Scripts.{are_numbered};
 
+use crate::{ClientScript, ScheduleLine, Settings};
 use fb_bytes::{Seq, TryCopy};
 use std::alloc::AllocError;
-
-use crate::{ClientScript, ScheduleLine, Settings};
 
 /// What a run plays.
 #[derive(Debug, Drop)]

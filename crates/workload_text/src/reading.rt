@@ -1,0 +1,50 @@
+ghost use Rattle.std.specs.Prelude.{◌≡◌, ◌<◌, ◌^◌, ◌+◌, length};
+ghost use Rattle.workload_text.specs.Texts.{lines_of};
+ghost use Rattle.workload_text.specs.Lines.{numbered};
+ghost use Rattle.workload_text.specs.Lines as lines;
+ghost use Rattle.workload_text.specs.Grammar.{what, whole, built};
+ghost use Rattle.workload_text.specs.Reader.{Gives, with_said};
+
+use crate::line::said;
+use crate::pieces::first_line;
+use crate::reader::Reader;
+use crate::{TextFault, Workload};
+use std::alloc::Global;
+
+/// The most bytes of a text.
+const MOST_BYTES: usize = 67_108_864;
+
+/// What the text of a workload says.
+pub fn read_workload(alloc: Global, bytes: &[u8]) -> Result<Workload, TextFault>
+    ensures { Gives what result (built bytes.now) }
+{
+    if bytes.len() > MOST_BYTES {
+        return Err(TextFault::NotBuilt { line: 0 });
+    }
+    read_lines(alloc, bytes)
+}
+
+fn read_lines(alloc: Global, text: &[u8]) -> Result<Workload, TextFault>
+    requires { length text.now < 2 ^ 32 }
+    ensures { Gives what result (whole (length (lines_of text.now) + 1) (numbered 1 (lines_of text.now))) }
+{
+    let mut reader = Reader::new(alloc);
+    let mut rest = text;
+    let mut number = 1;
+    'lines: while !rest.is_empty() {
+        let (line, after) = first_line(rest);
+        take_line(alloc, &mut reader, number, line)?;
+        number += 1;
+        rest = after;
+    }
+    reader.finish(alloc, number)
+}
+
+fn take_line(alloc: Global, reader: &mut Reader, number: u64, line: &[u8]) -> Result<(), TextFault>
+    ensures { Gives (λ _. reader.new) result (with_said number (lines.said line.now) reader.old) }
+{
+    match said(alloc, line)? {
+        Some(line) => reader.take(alloc, number, line),
+        None => Ok(()),
+    }
+}
