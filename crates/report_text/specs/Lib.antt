@@ -1,0 +1,5 @@
+pub mod Lines
+pub mod Outcomes
+pub mod Events
+pub mod Entries
+pub mod Reports

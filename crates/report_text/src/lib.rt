@@ -1,13 +1,14 @@
-// A library with one function.
+//! Reports: what a run did, and its text.
 #![tactic(auto)]
 
-ghost use Rattle.std.specs.Prelude.{◌≡◌};
-ghost use Rattle.report_text.specs.Echo.{echo_of};
+mod entries;
+mod events;
+mod outcomes;
+mod printing;
+mod report;
+#[cfg(test)]
+mod tests;
+mod words;
 
-// The `ensures` clause is the contract: what `echo` returns is `echo_of` of its argument, a definition
-// in `specs/Echo.antt`, which a caller's clause can cite too.
-pub fn echo(x: usize) -> usize
-    ensures { result ≡ echo_of x }
-{
-    x
-}
+pub use printing::report_bytes;
+pub use report::{EventLine, Report, RunReport};
