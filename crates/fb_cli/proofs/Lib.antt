@@ -1,2 +1,4 @@
 pub mod Histories
 pub mod Turns
+pub mod Texts
+pub mod Replaying

@@ -1,5 +1,5 @@
 -- Which words are a command, and what a command writes.
-use Rattle.std.specs.Prelude.{◌≡◌, ℕ, Bool, true, false, List, [], ◌∷◌, ◌++◌, Option, Some, None, codes, ◌⊎◌, if◌then◌else◌}
+use Rattle.std.specs.Prelude.{◌≡◌, ℕ, Bool, true, false, List, [], ◌∷◌, ◌++◌, Option, Some, None, codes, ◌⊎◌, MatchBool}
 use Rattle.fb_bytes.specs.Bytes.{Bytes, is_same}
 use Rattle.fb_outside.specs.declared.File.{File}
 use Rattle.fb_outside.specs.Contents.{IsFrontOf}
@@ -26,7 +26,7 @@ pub record Unread (left left' : Option Bytes) (faults faults' : ℕ) (report : O
 
 -- what the command that the words name comes to
 abbrev pub Commands : List Bytes → Option Bytes → Option Bytes → ℕ → ℕ → Option (List File) → Option Report → Option Fault → Type 0
-Commands words left left' faults faults' files report fault = if is_replay words then Replays left left' faults faults' files report fault else Unread left left' faults faults' report fault
+Commands words left left' faults faults' files report fault = MatchBool (is_replay words) (Replays left left' faults faults' files report fault) (Unread left left' faults faults' report fault)
 
 abbrev pub report_part : Option Report → Bytes
 report_part None = []

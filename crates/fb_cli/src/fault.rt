@@ -2,7 +2,7 @@ ghost use Rattle.std.specs.Prelude.{◌≡◌, Option, Some, None, ◌++◌, cod
 ghost use Rattle.fb_cli.specs.Faults.{status_of, refusal_line};
 
 use itoa::Buffer;
-use std::alloc::AllocError;
+use std::alloc::{AllocError, Global};
 
 /// Why a command was refused.
 #[derive(Clone, Copy, Debug, PartialEq, Eq)]
@@ -32,22 +32,34 @@ pub fn status_of(fault: Option<Fault>) -> u8
 }
 
 /// Adds the line of a refusal, where it has one.
-pub fn push_refusal(out: &mut Vec<u8>, fault: Option<Fault>) -> Result<(), AllocError>
+pub fn push_refusal(
+    alloc: Global,
+    out: &mut Vec<u8>,
+    fault: Option<Fault>,
+) -> Result<(), AllocError>
     ensures { IfOk result (λ _. out.new.items ≡ out.old.items ++ refusal_line fault) }
 {
+    let line = refusal_line(alloc, fault)?;
+    out.extend_from_slice(line.as_slice())?;
+    Ok(())
+}
+
+fn refusal_line(alloc: Global, fault: Option<Fault>) -> Result<Vec<u8>, AllocError>
+    ensures { IfOk result (λ line. line.items ≡ refusal_line fault) }
+{
     match fault {
-        Some(Fault::SourceFault) => out.extend_from_slice(b"refused source-fault\n"),
-        Some(Fault::NotBuilt { line }) => push_not_built(out, line),
-        None | Some(Fault::SinkFault) | Some(Fault::NoMemory) => Ok(()),
+        Some(Fault::SourceFault) => Vec::from_slice(alloc, b"refused source-fault\n"),
+        Some(Fault::NotBuilt { line }) => not_built_line(alloc, line),
+        None | Some(Fault::SinkFault) | Some(Fault::NoMemory) => Ok(Vec::new(alloc)),
     }
 }
 
-fn push_not_built(out: &mut Vec<u8>, line: u64) -> Result<(), AllocError>
-    ensures { IfOk result (λ _. out.new.items ≡ out.old.items ++ (codes "refused not-built " ++ decimal line ++ codes "\n")) }
+fn not_built_line(alloc: Global, line: u64) -> Result<Vec<u8>, AllocError>
+    ensures { IfOk result (λ text. text.items ≡ codes "refused not-built " ++ decimal line ++ codes "\n") }
 {
     let mut buffer = Buffer::new();
-    out.extend_from_slice(b"refused not-built ")?;
-    out.extend_from_slice(buffer.format(line).as_bytes())?;
-    out.extend_from_slice(b"\n")?;
-    Ok(())
+    let mut text = Vec::from_slice(alloc, b"refused not-built ")?;
+    text.extend_from_slice(buffer.format(line).as_bytes())?;
+    text.extend_from_slice(b"\n")?;
+    Ok(text)
 }

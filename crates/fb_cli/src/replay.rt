@@ -2,10 +2,10 @@ ghost use Rattle.std.specs.Prelude.{◌≡◌, Option, Some, None, [], ◌∷◌
 ghost use Rattle.fb_bytes.specs.Bytes.{Bytes};
 ghost use Rattle.fb_outside.specs.Faults.{Counts};
 ghost use Rattle.workload_text.specs.Grammar.{what, built, most_bytes};
-ghost use Rattle.cluster_core.specs.Step.{Run};
+ghost use Rattle.cluster_core.specs.Step.{Step, Run};
 ghost use Rattle.report_text.specs.declared.EventLine.{EventLine};
 ghost use Rattle.fb_cli.specs.Faults.{status_of};
-ghost use Rattle.fb_cli.specs.Runs.{event_of, turns_of, IsRunReport};
+ghost use Rattle.fb_cli.specs.Runs.{event_of, turn_of, turns_of, IsRunReport};
 ghost use Rattle.fb_cli.specs.Replays.{Replays, ReadsText};
 
 use crate::fault::Fault;
@@ -120,17 +120,25 @@ fn make_steps<V: Vault>(
 {
     let mut lines = Seq::new(alloc);
     for line in schedule {
-        let event = event_of(*line);
-        let answer = match world.step(&event) {
-            Ok(answer) => answer,
-            Err(StepFault::NoMemory) => return Err(AllocError),
-        };
-        lines.push(EventLine {
-            line: *line,
-            answer,
-        })?;
+        let event_line = make_step(world, *line)?;
+        lines.push(event_line)?;
     }
     Ok(lines)
+}
+
+// Makes the step of one line of a schedule.
+fn make_step<V: Vault>(world: &mut World<V>, line: ScheduleLine) -> Result<EventLine, AllocError>
+    ensures step { IfOk result (λ told. Step world.old.workload.settings world.old.state (turn_of told).event (turn_of told).answer world.new.state) }
+    ensures line { IfOk result (λ told. told.line ≡ line) }
+    ensures workload { world.new.workload ≡ world.old.workload }
+    ensures files { world.new.state.files ≡ world.old.state.files }
+    ensures faults { world.new.faults ≡ world.old.faults }
+{
+    let event = event_of(line);
+    match world.step(&event) {
+        Ok(answer) => Ok(EventLine { line, answer }),
+        Err(StepFault::NoMemory) => Err(AllocError),
+    }
 }
 
 // The event of a schedule's line.

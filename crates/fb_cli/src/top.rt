@@ -95,7 +95,7 @@ fn shown(
     ensures { IfOk result (λ text. text.items ≡ shown report.now fault) }
 {
     let mut text = report_text(alloc, report)?;
-    push_refusal(&mut text, fault)?;
+    push_refusal(alloc, &mut text, fault)?;
     Ok(text)
 }
 
