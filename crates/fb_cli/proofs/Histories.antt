@@ -8,10 +8,14 @@ use Rattle.workload_text.specs.declared.Workload.{Workload}
 use Rattle.client_core.specs.declared.Outcome.{Outcome}
 use Rattle.client_core.specs.Clients.{ClientState}
 use Rattle.client_core.specs.Legal.{entries_by, IsLegal}
-use Rattle.cluster_core.specs.State.{State, on_side, client_at}
+use Rattle.cluster_core.specs.State.{State, on_side, client_at, opening}
 use Rattle.cluster_core.specs.Sound.{IsOrdered, other_side, IsClientSound, scripts_of, Sound}
 use Rattle.report_text.specs.declared.RunReport.{RunReport}
-use Rattle.fb_cli.specs.Runs.{HasHistory}
+use Rattle.fb_outside.specs.declared.File.{File}
+use Rattle.workload_text.specs.declared.ScheduleLine.{ScheduleLine}
+use Rattle.cluster_core.specs.Step.{Run}
+use Rattle.report_text.specs.declared.EventLine.{EventLine}
+use Rattle.fb_cli.specs.Runs.{turns_of, TellsRun, HasHistory}
 
 -- the client of a script that stands in the list of scripts
 record Found (clients : List ClientState) (place : ℕ) (script : ClientScript) : Type 0 where
@@ -53,3 +57,18 @@ has_history workload w report h src dst outcomes end = record {
       (subst (λ (xs : List Entry). Says place script told xs w.dst) (sym src)
       (each_client workload.clients w place script told h s (ap (λ (os : List (List Outcome)). slice_get os place) (sym outcomes) ∙ o)));
 }
+
+-- a run over the whole schedule, told by its report
+pub tells : (workload begun ended : Workload) (files : Option (List File)) (old final : State) (report : RunReport) (schedule : List ScheduleLine) → begun ≡ workload → old ≡ opening workload files → Run begun.settings old (turns_of report.lines) final → map (λ (line : EventLine). line.line) report.lines ≡ schedule → schedule ≡ workload.schedule → ended ≡ begun → report.src ≡ final.src → report.dst ≡ final.dst → report.outcomes ≡ map (λ (client : ClientState). client.outcomes) final.clients → report.end ≡ final.time → Sound ended.clients final → TellsRun workload files report × HasHistory workload report
+tells workload begun ended files old final report schedule b o r l s e src dst outcomes end sound = (
+  record {
+    final = final;
+    run = subst (λ (x : Workload). Run x.settings (opening workload files) (turns_of report.lines) final) b (subst (λ (w : State). Run begun.settings w (turns_of report.lines) final) o r);
+    schedule = l ∙ s;
+    src = src;
+    dst = dst;
+    outcomes = outcomes;
+    end = end;
+  },
+  has_history workload final report (subst (λ (x : Workload). Sound x.clients final) (e ∙ b) sound) src dst outcomes end,
+)

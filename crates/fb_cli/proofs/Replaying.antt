@@ -20,7 +20,7 @@ says_ok (Err line) workload h = absurd h
 text_says : (left left' : Option Bytes) (f f' : ℕ) (workload : Workload) → ReadsText left left' f f' (Ok workload) → (bytes : Bytes) → left ≡ Some bytes → built bytes ≡ Ok (what workload)
 text_says left left' f f' workload h bytes e =
     elim (h.answer bytes e) [
-      inl p ↦ cc
+      | inl p ↦ cc
       | inr q ↦ elim q [ inl p ↦ cc | inr s ↦ says_ok (built bytes) workload s ]
     ]
 
@@ -52,9 +52,9 @@ refused_by left left' f f' files fault h = record {
   run = tt;
   kind = h.kind;
   answer = λ bytes e. elim (h.answer bytes e) [
-    inl p ↦ inl (let k : fault ≡ SourceFault = cc in ap Some k)
+    | inl p ↦ inl (let k : fault ≡ SourceFault = cc in ap Some k)
     | inr q ↦ elim q [
-      inl p ↦ inr (let k : fault ≡ NoMemory = cc in starved_answer (built bytes) fault k)
+      | inl p ↦ inr (let k : fault ≡ NoMemory = cc in starved_answer (built bytes) fault k)
       | inr s ↦ inr (said_answer (built bytes) fault s)
     ]
   ];

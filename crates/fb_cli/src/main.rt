@@ -7,37 +7,28 @@ mod top;
 
 use fb_bytes::Text;
 use fb_outside::{FolderVault, ReaderSource, WriterSink};
-use std::alloc::AllocError;
 use std::process::ExitCode;
-use std::rt::{Env, Runtime};
+use std::rt::Env;
 use std::{env, io};
 
 // The first word is the root folder of the file store, and the others are for `top`.
 fn main(rt: HostRuntime) -> ExitCode {
-    ExitCode::from(status_of_words(&rt))
-}
-
-fn status_of_words<R: Runtime + AllocGlobal + Send>(rt: &R) -> u8 {
-    let Ok(words) = words_of(rt) else {
-        return 12;
+    let Ok(words) = words_of(&rt) else {
+        return ExitCode::from(12);
     };
     let Some((root, words)) = words.split_first() else {
         let _ = rt.println("refused usage");
-        return 1;
+        return ExitCode::from(1);
     };
-    start(rt, root, words).unwrap_or(12)
-}
-
-fn start<R: Runtime + AllocGlobal + Send>(
-    rt: &R,
-    root: &Text,
-    words: &[Text],
-) -> Result<u8, AllocError> {
-    let vault = FolderVault::new(rt.clone()?, root.copy()?);
+    let files: Result<_, _> = rt.clone();
+    let (Ok(root), Ok(files)) = (root.copy(), files) else {
+        return ExitCode::from(12);
+    };
+    let vault = FolderVault::new(files, root);
     let mut source = ReaderSource::new(rt.reader());
-    let mut sink = WriterSink::new(io::writer(rt));
+    let mut sink = WriterSink::new(io::writer(&rt));
     let exit = top::top(rt.alloc(), words, &mut source, vault, &mut sink);
-    Ok(exit.status)
+    ExitCode::from(exit.status)
 }
 
 fn words_of<R: Env + AllocGlobal>(rt: &R) -> io::Result<Vec<Text>> {

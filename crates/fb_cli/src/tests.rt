@@ -7,7 +7,8 @@ use std::test::Fail;
 const EXAMPLE: &[u8] =
     b"block 256\npace 10\nclient 1 src\ntxn\nset a 1\nschedule\nbegin 1\ncommit 1\n";
 
-const REPORT: &[u8] = b"begin 1 -> read 0\ncommit 1 -> commit 10\nclient 1 txn 1 try 1 read 0 commit 10\nentry src 10 client 1 1\nset a 1\nend 10\n";
+const REPORT: &[u8] =
+    b"begin 1 -> read 0\ncommit 1 -> commit 10\nclient 1 txn 1 try 1 read 0 commit 10\nentry src 10 client 1 1\nset a 1\nend 10\n";
 
 // Plays a text with the words of a replay.
 fn played<K: Sink>(
@@ -39,7 +40,10 @@ fn a_source_that_fails_is_a_source_fault(rt: HostRuntime) -> Result<(), Fail> {
         let mut sink = MemSink::new(rt.alloc(), 1000, &[])?;
         let exit = played(rt.alloc(), EXAMPLE, &[failing], &mut sink)?;
         assert_eq!(rt; exit.status, 3);
-        assert_eq!(rt; sink.written().as_slice(), b"refused source-fault\n".as_slice());
+        assert_eq!(rt;
+            sink.written().as_slice(),
+            b"refused source-fault\n".as_slice()
+        );
     }
     Ok(())
 }

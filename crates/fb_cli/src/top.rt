@@ -47,12 +47,7 @@ pub fn top<S: Source, V: Vault, K: Sink>(
 }
 
 // The command that the words name.
-fn command<S: Source, V: Vault>(
-    alloc: Global,
-    words: &[Text],
-    source: &mut S,
-    vault: V,
-) -> Ended<V>
+fn command<S: Source, V: Vault>(alloc: Global, words: &[Text], source: &mut S, vault: V) -> Ended<V>
     ensures commands { Commands words.now (S.left source.old) (S.left source.new) (S.faults source.old) (S.faults source.new) (V.files vault) result.report result.fault }
     ensures files { V.files result.vault ≡ V.files vault }
     ensures vault_faults { V.faults result.vault ≡ V.faults vault }
