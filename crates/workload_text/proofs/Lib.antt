@@ -1,2 +1,4 @@
 pub mod Cutting
 pub mod Running
+pub mod Spelling
+pub mod Again

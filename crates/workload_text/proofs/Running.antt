@@ -14,12 +14,12 @@ use Rattle.workload_text.specs.declared.reader.Reader.{Reader}
 use Rattle.workload_text.specs.Lines.{Numbered, numbered, said}
 use Rattle.workload_text.specs.Lines.{with_line as numbering}
 use Rattle.workload_text.specs.Parts.{Operation, Transaction, Parts, parts_with, parts_of, ops_of, txns_of, is_refused, first_op, bad_among, event_of, in_front, next_event, events, schedule_part}
-use Rattle.workload_text.specs.Grammar.{what, Built, built_of, scheduled, unless_bad, behind_settings, behind_block, whole}
+use Rattle.workload_text.specs.Grammar.{Gives, what, Built, built_of, scheduled, unless_bad, behind_settings, behind_block, whole}
 use Rattle.workload_text.specs.Texts.{lines_of}
 use Rattle.workload_text.specs.declared.text_fault.TextFault.{TextFault}
 use Rattle.workload_text.specs.declared.text_fault.TextFault.TheVariants.{NotBuilt, NoMemory}
 use Rattle.workload_text.specs.declared.workload.Workload.{Workload}
-use Rattle.workload_text.specs.Reader.{Gives, and_then, at_start, closed_at, with_op, with_part, with_line, at_end, finished, with_said}
+use Rattle.workload_text.specs.Reader.{and_then, at_start, closed_at, with_op, with_part, with_line, at_end, finished, with_said}
 
 -- what the lines say, from a reader on
 abbrev pub run : Reader → ℕ → List Numbered → Result Built ℕ

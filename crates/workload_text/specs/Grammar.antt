@@ -1,11 +1,13 @@
 -- The texts that are built, and the workload that each says.
-use Rattle.std.specs.Prelude.{ℕ, ◌+◌, List, [], ◌∷◌, Option, Some, None, Result, Ok, Err, length, nat_lt, if◌then◌else◌}
+use Rattle.std.specs.Prelude.{◌≡◌, ℕ, ◌+◌, List, [], ◌∷◌, Option, Some, None, Result, Ok, Err, length, nat_lt, if◌then◌else◌}
 use Rattle.fb_bytes.specs.Bytes.{Bytes}
 use Rattle.mutations.specs.declared.TxOp.{TxOp}
 use Rattle.mutations.specs.Transactions.{◌or_else◌}
 use Rattle.workload_text.specs.declared.schedule.ScheduleLine.{ScheduleLine}
 use Rattle.workload_text.specs.declared.client_script.ClientScript.{ClientScript}
 use Rattle.workload_text.specs.declared.client_script.Side.TheVariants.{Src}
+use Rattle.workload_text.specs.declared.text_fault.TextFault.{TextFault}
+use Rattle.workload_text.specs.declared.text_fault.TextFault.TheVariants.{NotBuilt, NoMemory}
 use Rattle.workload_text.specs.declared.workload.Workload.{Workload}
 use Rattle.workload_text.specs.Texts.{lines_of}
 use Rattle.workload_text.specs.Lines.{Numbered, numbered}
@@ -64,3 +66,9 @@ most_bytes = 67108864
 -- What a text says, or the number of the first line that isn't allowed in its place: the number after the last line where the text ends too early, 0 where it is too long.
 abbrev pub built : Bytes → Result Built ℕ
 built text = if nat_lt most_bytes (length text) then Err 0 else whole (length (lines_of text) + 1) (numbered 1 (lines_of text))
+
+-- a call that may want memory gives this value, or a text's bad line
+abbrev pub Gives : {A B : Type 0} → (A → B) → Result A TextFault → Result B ℕ → Type 0
+Gives see (Ok x) r = r ≡ Ok (see x)
+Gives see (Err NoMemory) r = Unit {0}
+Gives see (Err (NotBuilt number)) r = r ≡ Err number

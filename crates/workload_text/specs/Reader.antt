@@ -1,8 +1,6 @@
 -- How the reader goes from line to line.
-use Rattle.std.specs.Prelude.{◌≡◌, ℕ, true, false, [], ◌∷◌, ◌++◌, Option, Some, None, Result, Ok, Err, length, nat_lt, if◌then◌else◌}
+use Rattle.std.specs.Prelude.{ℕ, true, false, [], ◌∷◌, ◌++◌, Option, Some, None, Result, Ok, Err, length, nat_lt, if◌then◌else◌}
 use Rattle.mutations.specs.declared.TxOp.{TxOp}
-use Rattle.workload_text.specs.declared.text_fault.TextFault.{TextFault}
-use Rattle.workload_text.specs.declared.text_fault.TextFault.TheVariants.{NotBuilt, NoMemory}
 use Rattle.workload_text.specs.declared.line.Line.{Line}
 use Rattle.workload_text.specs.declared.line.Line.TheVariants as line
 use Rattle.workload_text.specs.declared.reader.Place.{Place}
@@ -63,9 +61,3 @@ at_end end other r = Ok (built_of (if r.has_client then Some r.txns else None) r
 -- what the lines say, behind the last of them
 abbrev pub finished : ℕ → Reader → Result Built ℕ
 finished end r = and_then (closed r) (λ c. at_end end c.place c)
-
--- a call that may want memory gives this value, or a text's bad line
-abbrev pub Gives : {A B : Type 0} → (A → B) → Result A TextFault → Result B ℕ → Type 0
-Gives see (Ok x) r = r ≡ Ok (see x)
-Gives see (Err NoMemory) r = Unit {0}
-Gives see (Err (NotBuilt number)) r = r ≡ Err number

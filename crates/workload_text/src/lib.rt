@@ -8,6 +8,8 @@ mod reader;
 mod reading;
 mod schedule;
 mod settings;
+#[cfg(test)]
+mod tests;
 mod text_fault;
 mod workload;
 

@@ -1,9 +1,8 @@
 ghost use Rattle.std.specs.Prelude.{◌≡◌, true, Some, None, IfOk, if◌then◌else◌};
 ghost use Rattle.workload_text.specs.Scripts.{are_numbered};
 ghost use Rattle.workload_text.specs.Parts.{is_refused};
-ghost use Rattle.workload_text.specs.Grammar.{what, clients_of};
+ghost use Rattle.workload_text.specs.Grammar.{what, clients_of, Gives};
 ghost use Rattle.workload_text.specs.Reader as spec;
-ghost use Rattle.workload_text.specs.Reader.{Gives};
 
 use crate::line::Line;
 use crate::{ClientScript, ScheduleLine, Settings, Side, TextFault, Workload};

@@ -1,9 +1,10 @@
-ghost use Rattle.std.specs.Prelude.{◌≡◌, ◌<◌, ◌^◌, ◌+◌, length};
+ghost use Rattle.std.specs.Prelude.{Ok, Err, IfOk, ◌≡◌, ◌<◌, ◌^◌, ◌+◌, length};
 ghost use Rattle.workload_text.specs.Texts.{lines_of};
 ghost use Rattle.workload_text.specs.Lines.{numbered};
 ghost use Rattle.workload_text.specs.Lines as lines;
-ghost use Rattle.workload_text.specs.Grammar.{what, whole, built};
-ghost use Rattle.workload_text.specs.Reader.{Gives, with_said};
+ghost use Rattle.workload_text.specs.Grammar.{Built, what, whole, built, most_bytes, Gives};
+ghost use Rattle.workload_text.specs.Spelled.{IsTextOf};
+ghost use Rattle.workload_text.specs.Reader.{with_said};
 
 use crate::line::said;
 use crate::pieces::first_line;
@@ -16,7 +17,20 @@ const MOST_BYTES: usize = 67_108_864;
 
 /// What the text of a workload says.
 pub fn read_workload(alloc: Global, bytes: &[u8]) -> Result<Workload, TextFault>
-    ensures { Gives what result (built bytes.now) }
+    // The workload that the grammar says, or its first bad line.
+    ensures built { Gives what result (built bytes.now) }
+    // Read a second way: a text is read exactly where its lines are those of a workload.
+    ensures found { IfOk result (λ w. IsTextOf bytes.now (what w)) }
+    ensures only { (w : Built) → IsTextOf bytes.now w → Gives what result (Ok w) }
+    // A text that is too long is refused before any memory is asked for.
+    ensures long { most_bytes < length bytes.now → result ≡ Err (TextFault.NotBuilt 0) }
+{
+    read_text(alloc, bytes)
+}
+
+fn read_text(alloc: Global, bytes: &[u8]) -> Result<Workload, TextFault>
+    ensures built { Gives what result (built bytes.now) }
+    ensures long { most_bytes < length bytes.now → result ≡ Err (TextFault.NotBuilt 0) }
 {
     if bytes.len() > MOST_BYTES {
         return Err(TextFault::NotBuilt { line: 0 });

@@ -1,8 +1,8 @@
 use Rattle.std.proofs.Common.{◌≡◌, ◌+◌, rules, Err, length, subst, sym, ◌∙◌}
 use Rattle.workload_text.specs.Texts.{lines_of}
 use Rattle.workload_text.specs.Lines.{numbered, said}
-use Rattle.workload_text.specs.Reader.{Gives, with_said}
-use Rattle.workload_text.specs.Grammar.{what}
+use Rattle.workload_text.specs.Reader.{with_said}
+use Rattle.workload_text.specs.Grammar.{what, Gives}
 use Rattle.workload_text.proofs.Running.{run, run_ended, run_failed, whole_line}
 use Rattle.workload_text.proofs.reading.read_lines.Goals as goal
 
