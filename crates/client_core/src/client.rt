@@ -98,9 +98,9 @@ impl Client {
     ) -> Result<Option<Outcome>, AllocError>
         ensures ok { IfOk result (λ outcome. MatchOption outcome
             ((commit_try db.old.block versions.old.now versions.old.pace db.old.history self.old ≡ None)
-                × (self.new ≡ self.old) × (db.new ≡ db.old) × (versions.new ≡ versions.old))
+            × (self.new ≡ self.old) × (db.new ≡ db.old) × (versions.new ≡ versions.old))
             (λ outcome. commit_try db.old.block versions.old.now versions.old.pace db.old.history self.old
-                ≡ Some (record { outcome = outcome; client = self.new; history = db.new.history; time = versions.new.now }))) }
+            ≡ Some (record { outcome = outcome; client = self.new; history = db.new.history; time = versions.new.now }))) }
         ensures same { IfOk result (λ _. (db.new.block ≡ db.old.block) × (versions.new.pace ≡ versions.old.pace)) }
         ensures err { OnErr result ((self.new ≡ self.old) × (db.new ≡ db.old) × (versions.new ≡ versions.old)) }
     {
@@ -139,9 +139,11 @@ fn end_of_try(db: &Db, versions: &Versions, tx: &Tx) -> Result<End, AllocError>
 {
     match db.check(versions, tx) {
         Ok(Committed { version: None }) => Ok(End::ReadOnly),
-        Ok(Committed {
-            version: Some(version),
-        }) => Ok(End::Commit { version }),
+        Ok(
+            Committed {
+                version: Some(version),
+            },
+        ) => Ok(End::Commit { version }),
         Err(CommitFault::NoMemory) => Err(AllocError),
         Err(fault) => Ok(End::Fault(fault)),
     }

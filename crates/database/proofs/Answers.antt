@@ -14,11 +14,11 @@ use Rattle.database.specs.Commits.{commit_answer, unless_fault, version_taken, m
 pub commit_answer-by_fault : {block inner key value : ℕ} {ops read : List TxOp} {found : Option TxFault} (time pace : ℕ) → inner ≡ block → read ≡ ops → key ≡ key_limit_of inner → value ≡ limit_of inner → found ≡ tx_fault key value read → commit_answer block time pace ops ≡ unless_fault found (version_taken time pace (writes_of ops))
 commit_answer-by_fault {block = block} {inner = inner} {key = key} {value = value} {ops = ops} {read = read} {found = found} time pace b r k v f =
     ap (λ x. unless_fault x (version_taken time pace (writes_of ops))) (
-      ap (λ x. tx_fault (key_limit_of x) (limit_of x) ops) (sym b)
-      ∙ ap (λ x. tx_fault (key_limit_of inner) (limit_of inner) x) (sym r)
-      ∙ ap (λ x. tx_fault x (limit_of inner) read) (sym k)
-      ∙ ap (λ x. tx_fault key x read) (sym v)
-      ∙ sym f
+    ap (λ x. tx_fault (key_limit_of x) (limit_of x) ops) (sym b)
+    ∙ ap (λ x. tx_fault (key_limit_of inner) (limit_of inner) x) (sym r)
+    ∙ ap (λ x. tx_fault x (limit_of inner) read) (sym k)
+    ∙ ap (λ x. tx_fault key x read) (sym v)
+    ∙ sym f
     )
 
 -- without writes no version is taken

@@ -1,5 +1,0 @@
-pub mod Steps
-pub mod Items
-pub mod Order
-pub mod Blocks
-pub mod Files

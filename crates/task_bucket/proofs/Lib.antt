@@ -1,5 +1,0 @@
-pub mod Mapped
-pub mod Parts
-pub mod Picks
-pub mod Views
-pub mod Claiming

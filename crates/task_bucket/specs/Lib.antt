@@ -1,4 +1,0 @@
-pub mod Lists
-pub mod Claims
-pub mod Leases
-pub mod Held

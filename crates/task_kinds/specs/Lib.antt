@@ -1,4 +1,0 @@
-pub mod Kinds
-pub mod Params
-pub mod Tasks
-pub mod Tuples

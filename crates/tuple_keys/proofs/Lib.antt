@@ -1,6 +1,0 @@
-pub mod Values
-pub mod Parts
-pub mod Elements
-pub mod Small
-pub mod Loops
-pub mod Comparing

@@ -1,4 +1,0 @@
-pub mod Elements
-pub mod Spelling
-pub mod Reading
-pub mod Order
