@@ -12,12 +12,19 @@ fn file(alloc: Global, name: &str, bytes: &[u8]) -> Result<File, AllocError> {
 }
 
 #[test]
-fn reads_to_the_end_or_the_first_fault(rt: HostRuntime) -> Result<(), Fail> {
+fn reads_to_the_end(rt: HostRuntime) -> Result<(), Fail> {
     let alloc = rt.alloc();
     let bytes = [7; 5000];
     let mut source = MemSource::new(alloc, &bytes, &[])?;
     let read = read_all(alloc, &mut source, 5000)?;
     assert_eq!(rt; read.as_slice(), bytes.as_slice());
+    Ok(())
+}
+
+#[test]
+fn reads_to_the_limit_or_the_first_fault(rt: HostRuntime) -> Result<(), Fail> {
+    let alloc = rt.alloc();
+    let bytes = [7; 5000];
     let mut source = MemSource::new(alloc, &bytes, &[])?;
     assert_eq!(rt;
         read_all(alloc, &mut source, 4999).err(),
@@ -46,34 +53,61 @@ fn writes_what_there_is_room_for(rt: HostRuntime) -> Result<(), Fail> {
     Ok(())
 }
 
+// Calls on a store by names that are given as text.
+fn put_in<V: Vault>(
+    alloc: Global,
+    vault: &mut V,
+    name: &str,
+    bytes: &[u8],
+) -> Result<(), VaultFail> {
+    let name = Text::from_str(alloc, name)?;
+    vault.put(alloc, &name, bytes)
+}
+
+fn delete_in<V: Vault>(alloc: Global, vault: &mut V, name: &str) -> Result<(), VaultFail> {
+    let name = Text::from_str(alloc, name)?;
+    vault.delete(&name)
+}
+
+fn has<V: Vault>(
+    alloc: Global,
+    vault: &mut V,
+    name: &str,
+    bytes: &[u8],
+) -> Result<bool, VaultFail> {
+    let name = Text::from_str(alloc, name)?;
+    match vault.get(alloc, &name)? {
+        Some(found) => Ok(found.as_slice() == bytes),
+        None => Ok(false),
+    }
+}
+
+fn count_in<V: Vault>(alloc: Global, vault: &mut V, folder: &str) -> Result<usize, VaultFail> {
+    let folder = Text::from_str(alloc, folder)?;
+    let names = vault.list(alloc, &folder)?;
+    Ok(names.len())
+}
+
 #[test]
 fn keeps_files_by_name(rt: HostRuntime) -> Result<(), Fail> {
     let alloc = rt.alloc();
-    let mut files = Files::new(alloc);
-    files.put(file(alloc, "box/b", b"2")?)?;
-    files.put(file(alloc, "box/a", b"1")?)?;
-    files.put(file(alloc, "boxes/c", b"3")?)?;
-    let mut vault = MemVault::new(alloc, &files, &[3])?;
-    let folder = Text::from_str(alloc, "box")?;
-    let name = Text::from_str(alloc, "box/b")?;
-    let names = vault.list(alloc, &folder)?;
-    let want = ["box/a", "box/b"];
-    assert_eq!(rt; names.len(), want.len());
-    for (name, want) in names.as_slice().iter().zip(want) {
-        assert_eq!(rt; name.as_str(), want);
-    }
-    vault.put(alloc, &name, b"new")?;
-    assert_eq!(rt; vault.delete(&name).err(), Some(VaultFail::Failed));
-    match vault.get(alloc, &name)? {
-        Some(bytes) => assert_eq!(rt; bytes.as_slice(), b"new".as_slice()),
-        None => panic!(rt; "a call that failed keeps the file"),
-    }
-    vault.delete(&name)?;
-    assert!(rt; vault.get(alloc, &name)?.is_none());
-    assert_eq!(rt; vault.files().len(), 2);
-    let mut vault = MemVault::failing_after(alloc, &files, 1)?;
-    assert_eq!(rt; vault.list(alloc, &Text::new(alloc))?.len(), 3);
-    assert_eq!(rt; vault.get(alloc, &name).err(), Some(VaultFail::Failed));
+    let mut vault = MemVault::new(alloc, &Files::new(alloc), &[4])?;
+    put_in(alloc, &mut vault, "box/b", b"2")?;
+    put_in(alloc, &mut vault, "boxes/c", b"3")?;
+    assert_eq!(rt; count_in(alloc, &mut vault, "box")?, 1);
+    assert!(rt; delete_in(alloc, &mut vault, "box/b").is_err());
+    assert!(rt; has(alloc, &mut vault, "box/b", b"2")?);
+    delete_in(alloc, &mut vault, "box/b")?;
+    assert!(rt; !has(alloc, &mut vault, "box/b", b"2")?);
+    Ok(())
+}
+
+#[test]
+fn fails_after_the_calls_that_it_is_given(rt: HostRuntime) -> Result<(), Fail> {
+    let alloc = rt.alloc();
+    let mut vault = MemVault::failing_after(alloc, &Files::new(alloc), 1)?;
+    put_in(alloc, &mut vault, "box/b", b"2")?;
+    assert!(rt; count_in(alloc, &mut vault, "box").is_err());
     assert_eq!(rt; vault.faults(), 1);
     Ok(())
 }
@@ -84,29 +118,12 @@ fn keeps_files_on_disk(rt: HostRuntime) -> Result<(), Fail> {
     let id = process::id(rt.process());
     let root = format!(in alloc; "/tmp/fb_outside_{id}")?;
     let mut vault = FolderVault::new(rt.clone()?, Text::from_string(root.clone()?));
-    let name = Text::from_str(alloc, "box/logs/0/log,1,2,3,256")?;
-    let folder = Text::from_str(alloc, "box")?;
-    assert_eq!(rt; vault.list(alloc, &folder)?.len(), 0);
-    vault.put(alloc, &name, b"old")?;
-    vault.put(alloc, &name, b"new")?;
-    let names = vault.list(alloc, &folder)?;
-    assert_eq!(rt; names.len(), 1);
-    for listed in names.as_slice() {
-        assert_eq!(rt; listed.as_str(), name.as_str());
-    }
-    match vault.get(alloc, &name)? {
-        Some(bytes) => assert_eq!(rt; bytes.as_slice(), b"new".as_slice()),
-        None => panic!(rt; "the file was put"),
-    }
-    let outside = Text::from_str(alloc, "../box")?;
-    assert_eq!(rt;
-        vault.put(alloc, &outside, b"").err(),
-        Some(VaultFail::Failed)
-    );
-    assert_eq!(rt; vault.faults(), 1);
-    vault.delete(&name)?;
-    vault.delete(&name)?;
-    assert!(rt; vault.get(alloc, &name)?.is_none());
+    put_in(alloc, &mut vault, "box/logs/0/log,1,2,3,256", b"old")?;
+    put_in(alloc, &mut vault, "box/logs/0/log,1,2,3,256", b"new")?;
+    assert!(rt; has(alloc, &mut vault, "box/logs/0/log,1,2,3,256", b"new")?);
+    assert!(rt; put_in(alloc, &mut vault, "../box", b"").is_err());
+    delete_in(alloc, &mut vault, "box/logs/0/log,1,2,3,256")?;
+    assert_eq!(rt; count_in(alloc, &mut vault, "box")?, 0);
     fs::remove_dir_all(&rt, root.as_str())?;
     Ok(())
 }
