@@ -1,0 +1,4 @@
+mod Held
+mod Sets
+mod Cuts
+mod Parts

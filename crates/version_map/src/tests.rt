@@ -1,0 +1,46 @@
+use crate::VersionMap;
+use fb_bytes::{Blob, KeyRange};
+use std::alloc::{AllocError, Global};
+use std::test::Fail;
+
+fn range(alloc: Global, begin: &[u8], end: &[u8]) -> Result<KeyRange, AllocError> {
+    Ok(KeyRange {
+        begin: Blob::from_slice(alloc, begin)?,
+        end: Blob::from_slice(alloc, end)?,
+    })
+}
+
+#[test]
+fn the_last_set_stands_in_pieces(rt: HostRuntime) -> Result<(), Fail> {
+    let mut map = VersionMap::new(rt.alloc());
+    map.set(&range(rt.alloc(), b"a", b"m")?, 10)?;
+    map.set(&range(rt.alloc(), b"m", b"t")?, 10)?;
+    map.set(&range(rt.alloc(), b"c", b"d")?, 20)?;
+    map.set(&range(rt.alloc(), b"x", b"b")?, 30)?;
+    for (key, version) in [
+        (b"a", Some(10)),
+        (b"b", Some(10)),
+        (b"c", Some(20)),
+        (b"d", Some(10)),
+        (b"m", Some(10)),
+        (b"t", None),
+        (b"A", None),
+    ] {
+        assert_eq!(rt; map.at(key), version, "{key:?}");
+    }
+    let parts = map.pieces(&range(rt.alloc(), b"b", b"z")?)?;
+    let rows: [(&[u8], &[u8], Option<u64>); 5] = [
+        (b"b", b"c", Some(10)),
+        (b"c", b"d", Some(20)),
+        (b"d", b"m", Some(10)),
+        (b"m", b"t", Some(10)),
+        (b"t", b"z", None),
+    ];
+    assert_eq!(rt; parts.len(), rows.len());
+    for (part, (begin, end, version)) in parts.as_slice().iter().zip(rows) {
+        assert!(rt; part.range.begin.as_slice() == begin, "{begin:?}");
+        assert!(rt; part.range.end.as_slice() == end, "{begin:?}");
+        assert_eq!(rt; part.version, version, "{begin:?}");
+    }
+    Ok(())
+}
