@@ -1,0 +1,4 @@
+pub mod Files
+pub mod Grammar
+pub mod Reading
+pub mod Laws

@@ -1,0 +1,11 @@
+ghost use Rattle.manifests.specs.Laws.{ReadIsManifest, ManifestIsRead};
+
+/// Law: what is read from a text is in the grammar of its name.
+pub fn read_is_manifest()
+    ensures { ReadIsManifest }
+{}
+
+/// Law: what is in the grammar is read.
+pub fn manifest_is_read()
+    ensures { ManifestIsRead }
+{}

@@ -1,0 +1,152 @@
+use super::*;
+use file_names::{Name, parse};
+use std::test::Fail;
+
+/// The manifest of one range file.
+fn smallest() -> &'static str {
+    r#"{"beginVersion":20,"endVersion":20,"files":["kvranges/snapshot.20/0/range,20,1,256"],"format":1,"totalBytes":23}"#
+}
+
+#[test]
+fn smallest_manifest(rt: HostRuntime) -> Result<(), Fail> {
+    let alloc = rt.alloc();
+    let name = parse(b"snapshots/snapshot,20,20,23,3");
+    let manifest = read(alloc, smallest().as_bytes(), &name)?;
+    assert_eq!(rt;
+        (manifest.begin, manifest.end, manifest.bytes),
+        (20, 20, 23)
+    );
+    let [file] = manifest.files.as_slice() else {
+        return Err("one file".into());
+    };
+    assert_eq!(rt; file.as_str(), "kvranges/snapshot.20/0/range,20,1,256");
+    let text = write(alloc, &manifest)?;
+    assert_eq!(rt; text.as_slice(), smallest().as_bytes());
+    Ok(())
+}
+
+/// Version 100 stands before version 20.
+#[test]
+fn files_in_byte_order(rt: HostRuntime) -> Result<(), Fail> {
+    let alloc = rt.alloc();
+    let text =
+        r#"{"beginVersion":20,"endVersion":100,"files":["kvranges/snapshot.100/0/range,100,1,256","kvranges/snapshot.100/0/range,20,2,256"],"format":1,"totalBytes":46}"#;
+    let name = parse(b"snapshots/snapshot,20,100,46,3");
+    let manifest = read(alloc, text.as_bytes(), &name)?;
+    let copy = manifest.copy(alloc)?;
+    assert_eq!(rt; (copy.begin, copy.end, copy.files.len()), (20, 100, 2));
+    Ok(())
+}
+
+#[test]
+fn faults(rt: HostRuntime) -> Result<(), Fail> {
+    let rows = [
+        ("{", ManifestFault::Json),
+        (
+            "{}",
+            ManifestFault::Field {
+                name: Field::BeginVersion,
+            },
+        ),
+        (
+            r#"{"beginVersion":20,"endVersion":20.0}"#,
+            ManifestFault::Field {
+                name: Field::EndVersion,
+            },
+        ),
+        (
+            r#"{"beginVersion":20,"endVersion":20,"files":[1]}"#,
+            ManifestFault::Field { name: Field::Files },
+        ),
+        (
+            r#"{"beginVersion":20,"endVersion":20,"files":[],"format":2}"#,
+            ManifestFault::Field {
+                name: Field::Format,
+            },
+        ),
+        (
+            r#"{"beginVersion":20,"endVersion":20,"files":["a"],"format":1}"#,
+            ManifestFault::Field {
+                name: Field::TotalBytes,
+            },
+        ),
+        (
+            r#"{"beginVersion":20,"endVersion":20,"files":["kvranges/snapshot.20/0/range,20,1,256","logs/0/log,10,21,2,256"],"format":1,"totalBytes":23}"#,
+            ManifestFault::Order { at: 1 },
+        ),
+        (
+            r#"{"beginVersion":20,"endVersion":20,"files":["kvranges/snapshot.20/0/range,20,1,256","kvranges/snapshot.20/0/range,20,1,256"],"format":1,"totalBytes":23}"#,
+            ManifestFault::Order { at: 1 },
+        ),
+        (
+            r#"{"beginVersion":20,"endVersion":20,"files":[],"format":1,"totalBytes":23}"#,
+            ManifestFault::Versions,
+        ),
+        (
+            r#"{"beginVersion":20,"endVersion":20,"files":["kvranges/snapshot.20/0/range,20,1,256"],"format":1,"totalBytes":24}"#,
+            ManifestFault::Versions,
+        ),
+    ];
+    let name = parse(b"snapshots/snapshot,20,20,23,3");
+    for (text, fault) in rows {
+        assert_eq!(rt;
+            read(rt.alloc(), text.as_bytes(), &name).err(),
+            Some(fault),
+            "{text}"
+        );
+    }
+    assert_eq!(rt;
+        read(rt.alloc(), b"\xff", &name).err(),
+        Some(ManifestFault::Json)
+    );
+    Ok(())
+}
+
+/// Of a field that stands twice the last one counts.
+#[test]
+fn field_that_stands_twice(rt: HostRuntime) -> Result<(), Fail> {
+    let rows = [
+        (
+            r#"{"format":2,"beginVersion":20,"endVersion":20,"files":["kvranges/snapshot.20/0/range,20,1,256"],"format":1,"totalBytes":23}"#,
+            None,
+        ),
+        (
+            r#"{"format":1,"beginVersion":20,"endVersion":20,"files":["kvranges/snapshot.20/0/range,20,1,256"],"format":2,"totalBytes":23}"#,
+            Some(ManifestFault::Field {
+                name: Field::Format,
+            }),
+        ),
+    ];
+    let name = parse(b"snapshots/snapshot,20,20,23,3");
+    for (text, fault) in rows {
+        assert_eq!(rt;
+            read(rt.alloc(), text.as_bytes(), &name).err(),
+            fault,
+            "{text}"
+        );
+    }
+    Ok(())
+}
+
+#[test]
+fn words_of_fields(rt: HostRuntime) {
+    let rows = [
+        (Field::BeginVersion, "beginVersion"),
+        (Field::EndVersion, "endVersion"),
+        (Field::Files, "files"),
+        (Field::Format, "format"),
+        (Field::TotalBytes, "totalBytes"),
+    ];
+    for (field, word) in rows {
+        assert_eq!(rt; field.word(), word);
+    }
+}
+
+fn crosses<T: Send + Sync>() {}
+
+/// Threads may hand these on and share them.
+#[test]
+fn types_cross_threads() {
+    crosses::<Manifest>();
+    crosses::<ManifestFault>();
+}
