@@ -1,0 +1,5 @@
+pub mod Mapped
+pub mod Parts
+pub mod Picks
+pub mod Views
+pub mod Claiming

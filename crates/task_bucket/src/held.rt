@@ -1,0 +1,203 @@
+//! The tasks of a bucket in one list, each available or leased.
+
+ghost use Rattle.std.specs.Prelude.{◌≡◌, ◌==◌, if◌then◌else◌, ℕ, length, map, option_map, option_copied, IfOk, OnOk, OnErr};
+ghost use Rattle.task_bucket.specs.Held.{held_is, candidate, candidates, AreRising, is_free, is_idle, place_for, step_of, slot_in, woken, leased_if, retimed_held, first_held, leases_in, lists_in, least_of};
+ghost use Rattle.task_bucket.specs.Lists.{is_leased, least_until};
+ghost use Rattle.task_bucket.specs.Claims.{picked};
+
+use task_kinds::Task;
+
+/// A task, and the version until which it is leased; none where it is available.
+#[derive(Debug, Drop)]
+pub struct Held {
+    pub uid: u64,
+    pub until: Option<u64>,
+    pub task: Task,
+}
+
+impl Held {
+    /// Whether it is the lease of this uid until this version.
+    pub fn is_lease(&self, until: u64, uid: u64) -> bool
+        ensures { result ≡ held_is until uid self.now }
+    {
+        match self.until {
+            Some(leased) => leased == until && self.uid == uid,
+            None => false,
+        }
+    }
+
+    /// Whether it may be claimed: where nothing is available, those that are due, too.
+    pub fn is_candidate(&self, now: u64, idle: bool) -> bool
+        ensures { result ≡ candidate now idle self.now }
+    {
+        match self.until {
+            None => true,
+            Some(until) => idle && until <= now,
+        }
+    }
+
+    fn is_free(&self) -> bool
+        ensures { result ≡ is_free self.now.until }
+    {
+        match self.until {
+            None => true,
+            Some(_) => false,
+        }
+    }
+
+    // Makes it available, where it is due.
+    fn wake(&mut self, now: u64)
+        ensures { self.new ≡ woken now self.old }
+    {
+        if let Some(until) = self.until
+            && until <= now
+        {
+            self.until = None;
+        }
+    }
+
+    fn lease_if(&mut self, uid: u64, until: u64)
+        ensures { self.new ≡ leased_if uid until self.old }
+    {
+        if self.uid == uid {
+            self.until = Some(until);
+        }
+    }
+
+    fn retime_if(&mut self, until: u64, uid: u64, new: u64)
+        ensures { self.new ≡ retimed_held until uid new self.old }
+    {
+        if self.is_lease(until, uid) {
+            self.until = Some(new);
+        }
+    }
+
+    pub fn is_of(&self, job: u64) -> bool
+        ensures { result ≡ (self.now.task.job == job) }
+    {
+        self.task.job() == job
+    }
+}
+
+/// Whether none is available.
+pub fn is_idle(held: &[Held]) -> bool
+    ensures { result ≡ is_idle held.now }
+{
+    for one in held {
+        if one.is_free() {
+            return false;
+        }
+    }
+    true
+}
+
+/// The place of the first with a greater uid.
+pub fn place_for(held: &[Held], uid: u64) -> usize
+    ensures { result ≡ place_for uid held.now }
+{
+    for (i, one) in held.iter().enumerate() {
+        if uid < one.uid {
+            return i;
+        }
+    }
+    held.len()
+}
+
+// The later one, if it isn't past the pick or is the first.
+fn better<'a>(best: Option<&'a Held>, one: &'a Held, pick: u64) -> Option<&'a Held>
+    ensures { option_map slot_in (option_copied result) ≡ step_of pick (slot_in one.now) (option_map slot_in (option_copied best.entry)) }
+{
+    match best {
+        Some(other) if pick < one.uid => Some(other),
+        _ => Some(one),
+    }
+}
+
+/// The one to claim: that with the greatest uid at or below the pick, else the first.
+pub fn picked(held: &[Held], now: u64, idle: bool, pick: u64) -> Option<&Held>
+    requires { AreRising held.now }
+    ensures { option_map slot_in (option_copied result) ≡ picked pick (candidates now idle held.now) }
+{
+    let mut best: Option<&Held> = None;
+    for one in held {
+        if one.is_candidate(now, idle) {
+            best = better(best, one, pick);
+        }
+    }
+    best
+}
+
+/// Makes those that are due available, where nothing is.
+pub fn wake_if(held: &mut [Held], now: u64, idle: bool)
+    ensures { held.new ≡ (if idle then map (woken now) held.old else held.old) }
+{
+    if idle {
+        wake(held, now);
+    }
+}
+
+fn wake(held: &mut [Held], now: u64)
+    ensures { held.new ≡ map (woken now) held.old }
+{
+    for one in held.iter_mut() {
+        one.wake(now);
+    }
+}
+
+/// Leases the one with this uid.
+pub fn lease_out(held: &mut [Held], uid: u64, until: u64)
+    ensures { held.new ≡ map (leased_if uid until) held.old }
+{
+    for one in held.iter_mut() {
+        one.lease_if(uid, until);
+    }
+}
+
+/// Gives the lease of this uid until this version another until.
+pub fn retime(held: &mut [Held], until: u64, uid: u64, new: u64)
+    ensures { held.new ≡ map (retimed_held until uid new) held.old }
+{
+    for one in held.iter_mut() {
+        one.retime_if(until, uid, new);
+    }
+}
+
+/// The lease of this uid until this version.
+pub fn find(held: &[Held], until: u64, uid: u64) -> Option<&Held>
+    ensures { option_copied result ≡ first_held until uid held.now }
+{
+    for one in held {
+        if one.is_lease(until, uid) {
+            return Some(one);
+        }
+    }
+    None
+}
+
+/// Whether there is a lease of this uid until this version.
+pub fn is_leased(held: &[Held], until: u64, uid: u64) -> bool
+    ensures { result ≡ is_leased until uid (lists_in held.now) }
+{
+    find(held, until, uid).is_some()
+}
+
+/// The least version that one of these is leased until.
+pub fn earliest(held: &[Held]) -> Option<u64>
+    ensures { result ≡ least_until (leases_in held.now) }
+{
+    let mut least = None;
+    for one in held {
+        least = lesser(least, one.until);
+    }
+    least
+}
+
+fn lesser(least: Option<u64>, until: Option<u64>) -> Option<u64>
+    ensures { result ≡ least_of least until }
+{
+    match (least, until) {
+        (Some(n), Some(m)) => Some(n.min(m)),
+        (Some(n), None) => Some(n),
+        (None, until) => until,
+    }
+}

@@ -1,0 +1,4 @@
+pub mod Mapped
+pub mod Falling
+pub mod Linking
+pub mod Keeping

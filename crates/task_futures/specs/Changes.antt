@@ -1,0 +1,14 @@
+-- The changes of one future, as the list of futures makes them.
+use Rattle.std.specs.Prelude.{ℕ, not, List, [], ◌∷◌, ◌++◌}
+use Rattle.std.specs.List.{filter}
+use Rattle.task_futures.specs.Futures.{SeenFuture, Part, is_part}
+
+-- without the block of a part
+abbrev pub cleared : Part → SeenFuture → SeenFuture
+cleared part f = record { number = f.number; blocks = filter (λ b. not (is_part f.number b part)) f.blocks; callbacks = f.callbacks; joins = f.joins }
+
+abbrev pub emptied : SeenFuture → SeenFuture
+emptied f = record { number = f.number; blocks = f.blocks; callbacks = f.callbacks; joins = [] }
+
+abbrev pub and_join : Part → SeenFuture → SeenFuture
+and_join part f = record { number = f.number; blocks = f.blocks; callbacks = f.callbacks; joins = f.joins ++ part ∷ [] }

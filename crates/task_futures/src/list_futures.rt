@@ -1,0 +1,173 @@
+ghost use Rattle.std.specs.Prelude.{◌≡◌, ◌++◌, ◌≤◌, ◌^◌, ◌+◌, ◌==◌, not, [], ◌∷◌, map, List, IfOk, OnOk, if◌then◌else◌};
+ghost use Rattle.std.specs.List.{filter};
+ghost use Rattle.task_futures.specs.Futures.{next_number, newly_set, settle, without_newest, join_blocks, linked};
+
+use crate::future::{Future, below_limit};
+use crate::settling::{greatest, is_open, place_of, unblock, unlink_all};
+use crate::{Futures, Part, Tasks};
+use std::alloc::{AllocError, Global};
+use std::marker::Model;
+use task_kinds::Task;
+
+/// Futures in memory, as a list.
+#[derive(Debug, Drop)]
+pub struct ListFutures {
+    alloc: Global,
+    futures: Vec<Future>,
+}
+
+impl Model for ListFutures {
+    ghost use Rattle.std.specs.Prelude.{List};
+    ghost use Rattle.task_futures.specs.Futures.{SeenFuture};
+
+    ghost Value = { List SeenFuture };
+
+    ghost view = { λ f. f.futures.items };
+}
+
+impl ListFutures {
+    /// No futures. It takes no memory.
+    pub fn new(alloc: Global) -> Self
+        ensures { result ≡ [] }
+    {
+        ListFutures {
+            alloc,
+            futures: Vec::new(alloc),
+        }
+    }
+}
+
+fn next_number(futures: &[Future]) -> Result<u64, AllocError>
+    ensures { IfOk result (λ n. (n ≡ next_number futures.now) × (n ≤ 2 ^ 62)) }
+{
+    below_limit(greatest(futures))
+}
+
+fn keep_others(futures: &mut Vec<Future>, number: u64)
+    ensures { futures.new.items ≡ filter (λ f. not (f.number == number)) futures.old.items }
+{
+    futures.retain(|one| one.number() != number);
+}
+
+fn due_in(alloc: Global, futures: &[Future], part: Part) -> Result<Tasks, AllocError>
+    ensures { IfOk result (λ tasks. tasks ≡ newly_set futures.now (settle (part ∷ []) futures.now)) }
+{
+    let mut pending = vec![in alloc; part]?;
+    let mut due = Tasks::new(alloc);
+    for one in futures {
+        one.fall(&mut pending, &mut due)?;
+    }
+    Ok(due)
+}
+
+fn blocks_for(alloc: Global, futures: &[Future], parts: &[u64]) -> Result<Vec<u64>, AllocError>
+    ensures { IfOk result (λ blocks. blocks.items ≡ join_blocks 1 parts.now futures.now) }
+{
+    let mut blocks = Vec::new(alloc);
+    let mut block: u64 = 1;
+    for part in parts {
+        if is_open(futures, *part) {
+            blocks.push(block)?;
+            block = block.checked_add(1).ok_or(AllocError)?;
+        }
+    }
+    Ok(blocks)
+}
+
+fn drop_newest(futures: &mut Vec<Future>)
+    ensures { futures.new.items ≡ without_newest futures.old.items }
+{
+    let number = greatest(futures);
+    keep_others(futures, number);
+    unlink_all(futures, number);
+}
+
+fn linked_all(
+    alloc: Global,
+    futures: &[Future],
+    parts: &[u64],
+    number: u64,
+) -> Result<Vec<Future>, AllocError>
+    requires { number ≡ next_number futures.now }
+    ensures { IfOk result (λ all. all.items ≡ map (linked parts.now futures.now) futures.now) }
+{
+    let mut all = Vec::new(alloc);
+    for one in futures {
+        let mut copy = one.copy(alloc)?;
+        link(&mut copy, futures, parts, number)?;
+        all.push(copy)?;
+    }
+    Ok(all)
+}
+
+fn link(one: &mut Future, futures: &[Future], parts: &[u64], join: u64) -> Result<(), AllocError>
+    requires { join ≡ next_number futures.now }
+    ensures { OnOk result (one.new ≡ linked parts.now futures.now one.old) }
+{
+    let mut block: u64 = 1;
+    for part in parts {
+        if is_open(futures, *part) {
+            if *part == one.number() {
+                one.add_join(Part { join, block })?;
+            }
+            block = block.checked_add(1).ok_or(AllocError)?;
+        }
+    }
+    Ok(())
+}
+
+impl Futures for ListFutures {
+    ghost futures = { λ f. f };
+
+    fn fresh(&mut self) -> Result<u64, AllocError> {
+        let number = next_number(&self.futures)?;
+        let future = Future::new(self.alloc, number, Vec::new(self.alloc));
+        self.futures.push(future)?;
+        Ok(number)
+    }
+
+    fn block(&mut self, future: u64) -> Result<u64, AllocError> {
+        let at = place_of(&self.futures, future);
+        self.futures[at].add_block()
+    }
+
+    fn on_set(&mut self, future: u64, task: Task) -> Result<(), AllocError> {
+        let at = place_of(&self.futures, future);
+        self.futures[at].add_callback(task)
+    }
+
+    fn join(&mut self, parts: &[u64]) -> Result<u64, AllocError> {
+        let number = next_number(&self.futures)?;
+        let blocks = blocks_for(self.alloc, &self.futures, parts)?;
+        let mut futures = linked_all(self.alloc, &self.futures, parts, number)?;
+        futures.push(Future::new(self.alloc, number, blocks))?;
+        self.futures = futures;
+        Ok(number)
+    }
+
+    fn due(&self, alloc: Global, future: u64, block: u64) -> Result<Tasks, AllocError> {
+        due_in(
+            alloc,
+            &self.futures,
+            Part {
+                join: future,
+                block,
+            },
+        )
+    }
+
+    fn unblock(&mut self, future: u64, block: u64) {
+        unblock(
+            self.alloc,
+            &mut self.futures,
+            Part {
+                join: future,
+                block,
+            },
+        );
+    }
+
+    fn drop_newest(&mut self) {
+        drop_newest(&mut self.futures);
+    }
+}

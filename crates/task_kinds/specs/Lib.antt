@@ -1,0 +1,4 @@
+pub mod Kinds
+pub mod Params
+pub mod Tasks
+pub mod Tuples

@@ -1,0 +1,4 @@
+pub mod Elements
+pub mod Spelling
+pub mod Reading
+pub mod Order
