@@ -1,0 +1,6 @@
+pub mod Grammar
+pub mod Reading
+pub mod Writing
+pub mod Laws
+pub mod Seen
+pub mod Front

@@ -1,0 +1,270 @@
+ghost use Rattle.std.specs.Prelude.{◌≡◌, true};
+ghost use Rattle.std.specs.List.{AllByRecursion};
+ghost use Rattle.fb_bytes.specs.Pairs.{AreRising, KeyPast};
+ghost use Rattle.range_files.specs.Writing.{IsWritable, PairFits};
+
+use super::*;
+use block_frame::Profile;
+use fb_bytes::{Blob, Pair, Pairs, is_below};
+use std::alloc::{AllocError, Global};
+use std::test::Fail;
+
+/// The pairs from begin to end, where their keys rise.
+fn chunk_of(
+    alloc: Global,
+    begin: &[u8],
+    end: &[u8],
+    list: &[(&[u8], &[u8])],
+) -> Result<Option<Chunk>, AllocError> {
+    let begin = Blob::from_slice(alloc, begin)?;
+    let end = Blob::from_slice(alloc, end)?;
+    let mut pairs = Vec::new(alloc);
+    for (key, value) in list {
+        let key = Blob::from_slice(alloc, key)?;
+        let value = Blob::from_slice(alloc, value)?;
+        pairs.push(Pair { key, value })?;
+    }
+    if !is_rising(&pairs) {
+        return Ok(None);
+    }
+    let pairs = Pairs::from_vec(pairs);
+    Ok(Some(Chunk {
+        begin,
+        end,
+        version: 20,
+        pairs,
+    }))
+}
+
+fn is_rising(pairs: &[Pair]) -> bool
+    ensures { result ≡ true → AreRising pairs.now }
+{
+    match pairs {
+        [] => true,
+        [pair, others @ ..] => is_past(pair, others) && is_rising(others),
+    }
+}
+
+fn is_past(pair: &Pair, others: &[Pair]) -> bool
+    ensures { result ≡ true → KeyPast pair.now.key others.now }
+{
+    match others {
+        [] => true,
+        [next, ..] => is_below(pair.key.as_slice(), next.key.as_slice()),
+    }
+}
+
+/// The file of a chunk, where it can be written in blocks of this size.
+fn written(alloc: Global, block: u32, chunk: &Chunk) -> Result<Option<Blob>, AllocError> {
+    if !is_writable(block, chunk) {
+        return Ok(None);
+    }
+    Ok(Some(write_range_at(alloc, block, chunk)?))
+}
+
+fn is_writable(block: u32, chunk: &Chunk) -> bool
+    ensures { result ≡ true → IsWritable block chunk.now.begin chunk.now.end chunk.now.pairs }
+{
+    let Some(profile) = Profile::from_block(block) else {
+        return false;
+    };
+    let begin = chunk.begin.as_slice();
+    let end = chunk.end.as_slice();
+    begin.len() <= profile.key
+        && end.len() <= profile.key
+        && is_below(begin, end)
+        && are_within(&profile, begin, end, chunk.pairs.as_slice())
+}
+
+fn are_within(profile: &Profile, begin: &[u8], end: &[u8], pairs: &[Pair]) -> bool
+    ensures { result ≡ true → AllByRecursion (PairFits profile.now.block begin.now end.now) pairs.now }
+{
+    match pairs {
+        [] => true,
+        [pair, others @ ..] => {
+            is_within(profile, begin, end, pair) && are_within(profile, begin, end, others)
+        }
+    }
+}
+
+fn is_within(profile: &Profile, begin: &[u8], end: &[u8], pair: &Pair) -> bool
+    ensures { result ≡ true → PairFits profile.now.block begin.now end.now pair.now }
+{
+    let key = pair.key.as_slice();
+    key.len() <= profile.key
+        && pair.value.len() <= profile.value
+        && !is_below(key, begin)
+        && is_below(key, end)
+}
+
+/// Whether the file that is written is read back as the chunk.
+fn is_read_back(alloc: Global, block: u32, chunk: &Chunk) -> Result<bool, Fail> {
+    if block == 0 {
+        return Ok(false);
+    }
+    let text = written(alloc, block, chunk)?.ok_or("a chunk that can be written")?;
+    let body = read_range(alloc, text.as_slice(), block)?;
+    Ok(holds(&body, chunk))
+}
+
+fn holds(body: &RangeBody, chunk: &Chunk) -> bool {
+    let same = body.pairs.as_slice().iter().zip(chunk.pairs.as_slice());
+    body.begin.as_slice() == chunk.begin.as_slice()
+        && body.end.as_slice() == chunk.end.as_slice()
+        && body.pairs.len() == chunk.pairs.len()
+        && same.fold(true, |so_far, (a, b)| so_far && is_equal(a, b))
+}
+
+fn is_equal(a: &Pair, b: &Pair) -> bool {
+    a.key.as_slice() == b.key.as_slice() && a.value.as_slice() == b.value.as_slice()
+}
+
+/// The pairs `b` to `g` with values of 64 bytes.
+fn six_pairs(alloc: Global) -> Result<Option<Chunk>, AllocError> {
+    let value: &[u8] = &[7; 64];
+    let list: [(&[u8], &[u8]); 6] = [
+        (b"b", value),
+        (b"c", value),
+        (b"d", value),
+        (b"e", value),
+        (b"f", value),
+        (b"g", value),
+    ];
+    chunk_of(alloc, b"a", b"z", &list)
+}
+
+/// Their file, block by block.
+fn file_of_six_pairs(alloc: Global) -> Result<Vec<u8>, AllocError> {
+    let mut out = Vec::new(alloc);
+    let blocks: [(u8, &[u8], usize); 3] = [
+        (b'a', b"bcd", 28),
+        (b'd', b"def", 28),
+        (b'f', b"fg", 0),
+    ];
+    for (begin, keys, padding) in blocks {
+        out.extend_from_slice(&[0xe9, 3, 0, 0, 0, 0, 0, 1, begin])?;
+        for key in keys {
+            out.extend_from_slice(&[0, 0, 0, 1, *key, 0, 0, 0, 64])?;
+            out.extend_from_slice(&[7; 64])?;
+        }
+        for _ in 0..padding {
+            out.push(0xff)?;
+        }
+    }
+    out.extend_from_slice(b"\0\0\0\x01z")?;
+    Ok(out)
+}
+
+#[test]
+fn files_of_one_block(rt: HostRuntime) -> Result<(), Fail> {
+    let one = chunk_of(rt.alloc(), b"a", b"z", &[(b"c", b"1")])?.ok_or("rising keys")?;
+    let text = written(rt.alloc(), 256, &one)?.ok_or("within the limits")?;
+    let expected: &[u8] = b"\xe9\x03\0\0\0\0\0\x01a\0\0\0\x01c\0\0\0\x011\0\0\0\x01z";
+    assert_eq!(rt; text.as_slice(), expected);
+    let whole = chunk_of(rt.alloc(), b"", b"\xff", &[(b"a", b"1")])?.ok_or("rising keys")?;
+    let text = written(rt.alloc(), 256, &whole)?.ok_or("within the limits")?;
+    let expected: &[u8] = b"\xe9\x03\0\0\0\0\0\0\0\0\0\x01a\0\0\0\x011\0\0\0\x01\xff";
+    assert_eq!(rt; text.as_slice(), expected);
+    Ok(())
+}
+
+#[test]
+fn file_of_three_blocks(rt: HostRuntime) -> Result<(), Fail> {
+    let chunk = six_pairs(rt.alloc())?.ok_or("rising keys")?;
+    let text = written(rt.alloc(), 256, &chunk)?.ok_or("within the limits")?;
+    let bytes = file_of_six_pairs(rt.alloc())?;
+    assert_eq!(rt; bytes.len(), 672);
+    assert_eq!(rt; text.as_slice(), bytes.as_slice());
+    let body = read_range(rt.alloc(), &bytes, 256)?;
+    assert!(rt; holds(&body, &chunk));
+    Ok(())
+}
+
+#[test]
+fn a_file_that_is_cut(rt: HostRuntime) -> Result<(), Fail> {
+    let mut bytes = file_of_six_pairs(rt.alloc())?;
+    bytes.truncate(512);
+    let cut = read_range(rt.alloc(), &bytes, 256);
+    assert_eq!(rt; cut.err(), Some(BlockFault::Short { at: 512 }));
+    Ok(())
+}
+
+#[test]
+fn a_file_with_spoilt_padding(rt: HostRuntime) -> Result<(), Fail> {
+    let mut bytes = file_of_six_pairs(rt.alloc())?;
+    assert!(rt; 230 < bytes.len());
+    bytes[230] = 0;
+    let spoilt = read_range(rt.alloc(), &bytes, 256);
+    assert_eq!(rt; spoilt.err(), Some(BlockFault::Padding { at: 230 }));
+    Ok(())
+}
+
+#[test]
+fn faults(rt: HostRuntime) {
+    let texts: [(&[u8], BlockFault); 9] = [
+        (b"", BlockFault::Short { at: 0 }),
+        (b"\xd1\x07\0\0", BlockFault::Format { found: 2001 }),
+        (b"\xe9\x03\0\0\0\0\0\x02a", BlockFault::Short { at: 4 }),
+        (b"\xe9\x03\0\0\0\0\0\x01a", BlockFault::Short { at: 9 }),
+        (
+            b"\xe9\x03\0\0\0\0\0\x01a\0\0\0\x01b\xff\0",
+            BlockFault::Padding { at: 15 },
+        ),
+        (
+            b"\xe9\x03\0\0\0\0\0\x01a\0\0\0\x01c\0\0\0\x011\0\0\0\x01c",
+            BlockFault::Order { at: 19 },
+        ),
+        (
+            b"\xe9\x03\0\0\0\0\0\x01a\0\0\0\x01c\0\0\0\x011",
+            BlockFault::Short { at: 19 },
+        ),
+        (
+            b"\xe9\x03\0\0\0\0\0\x01a\0\0\0\x01c\0\0\0\x011\xff\xff\xff\xff\xff\xe9\x03\0\0\0\0\0\x01c\0\0\0\x01c\0\0\0\x012\0\0\0\x01z",
+            BlockFault::Join { block: 1 },
+        ),
+        (
+            b"\xe9\x03\0\0\0\0\0\x01a\0\0\0\x01c\xff\xff\xff\xff\xff\xff\xff\xff\xff\xff\xe9\x03\0\0\0\0\0\x01c\0\0\0\x01z",
+            BlockFault::Join { block: 1 },
+        ),
+    ];
+    for (text, fault) in texts {
+        assert_eq!(rt; read_range(rt.alloc(), text, 24).err(), Some(fault));
+    }
+}
+
+#[test]
+fn one_block_at_its_place(rt: HostRuntime) -> Result<(), Fail> {
+    let text: &[u8] = b"\xe9\x03\0\0\0\0\0\x01a\0\0\0\x01c\0\0\0\x011\xff\xff";
+    let block = read_block(rt.alloc(), text, 0, 1001)?;
+    assert_eq!(rt; block.begin.as_slice(), b"a".as_slice());
+    assert_eq!(rt; block.pairs.len(), 1);
+    assert!(rt; block.end.is_none());
+    let later = read_block(rt.alloc(), text, 24, 1001);
+    assert_eq!(rt; later.err(), Some(BlockFault::Order { at: 33 }));
+    Ok(())
+}
+
+/// Three pairs, each with a key and a value of these lengths.
+fn long_pairs(alloc: Global, key: usize, value: usize) -> Result<Option<Chunk>, AllocError> {
+    let value = vec![in alloc; 7; value]?;
+    let first = vec![in alloc; 1; key]?;
+    let second = vec![in alloc; 2; key]?;
+    let third = vec![in alloc; 3; key]?;
+    let list: [(&[u8], &[u8]); 3] = [(&first, &value), (&second, &value), (&third, &value)];
+    chunk_of(alloc, b"", b"\xff", &list)
+}
+
+#[test]
+fn greatest_lengths_of_each_profile(rt: HostRuntime) -> Result<(), Fail> {
+    for (block, key, value) in [
+        (256, 24, 64),
+        (4_096, 256, 1_024),
+        (262_144, 10_000, 100_000),
+        (1_048_576, 10_000, 100_000),
+    ] {
+        let chunk = long_pairs(rt.alloc(), key, value)?.ok_or("rising keys")?;
+        let chunk = chunk.copy(rt.alloc())?;
+        assert!(rt; is_read_back(rt.alloc(), block, &chunk)?, "{block}");
+    }
+    Ok(())
+}
