@@ -1,5 +1,6 @@
 ghost use Rattle.std.specs.Prelude.{◌≡◌};
 ghost use Rattle.manifests.specs.declared.fault.ManifestFault.TheVariants.{NoMemory};
+ghost use Rattle.manifests.specs.Fields.{word_of};
 
 use std::alloc::{AllocError, AllocFailed};
 
@@ -15,7 +16,9 @@ pub enum Field {
 
 impl Field {
     /// The field's key.
-    pub fn word(self) -> &'static str {
+    pub fn word(self) -> &'static str
+        ensures { result.now ≡ word_of self }
+    {
         match self {
             Field::BeginVersion => "beginVersion",
             Field::EndVersion => "endVersion",
