@@ -1,0 +1,5 @@
+use Rattle.log_files.proofs.Written.{written_is_read}
+use Rattle.log_files.proofs.laws.written_is_read.Goals as goal
+
+pub returns : goal.returns
+returns c = written_is_read

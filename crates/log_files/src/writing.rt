@@ -1,0 +1,94 @@
+//! Writing a log file.
+
+ghost use Rattle.std.specs.Prelude.{◌≡◌, ◌+◌, ◌*◌, ◌<◌, ◌≤◌, ◌^◌, true, length, IfOk, OnOk};
+ghost use Rattle.std.specs.Int.{w32, w64, to_be_bytes};
+ghost use Rattle.fb_bytes.specs.Blocks.{is_block};
+ghost use Rattle.block_frame.specs.Profiles.{part_of};
+ghost use Rattle.log_files.specs.Grammar.{LogFile, row_key, row_text, rows_of};
+ghost use Rattle.log_files.specs.Writing.{IsWritable, log_text, with_rows, pieces_of};
+
+use crate::record::FORMAT;
+use block_frame::{FrameWriter, Profile, push_string};
+use fb_bytes::Blob;
+use mutations::{LogChunk, encode_batch};
+use std::alloc::{AllocError, Global};
+
+/// The log file of a chunk, in blocks of `BLOCK` bytes. Without batches it has 0 bytes.
+pub fn write_log<const BLOCK: u32>(alloc: Global, chunk: &LogChunk) -> Result<Blob, AllocError>
+    requires { IsWritable BLOCK chunk.now.begin chunk.now.end chunk.now.batches }
+    ensures text { IfOk result (λ text. text ≡ log_text BLOCK chunk.now.batches) }
+    // It is in the grammar, so it is read back.
+    ensures grammar { IfOk result (λ text. LogFile BLOCK chunk.now.begin chunk.now.end text chunk.now.batches) }
+{
+    block_frame::blocks_have_room();
+    let part = part_size(BLOCK);
+    let batches = chunk.batches.as_slice();
+    let mut frames = FrameWriter::<BLOCK, FORMAT>::new(alloc);
+    for batch in batches {
+        let bytes = encode_batch(alloc, &batch.muts)?;
+        put_batch(alloc, &mut frames, part, batch.version, bytes.as_slice())?;
+    }
+    Ok(frames.finish())
+}
+
+/// The same for a block that is a value.
+pub fn write_log_at(alloc: Global, block: u32, chunk: &LogChunk) -> Result<Blob, AllocError>
+    requires { IsWritable block chunk.now.begin chunk.now.end chunk.now.batches }
+    ensures text { IfOk result (λ text. text ≡ log_text block chunk.now.batches) }
+    ensures grammar { IfOk result (λ text. LogFile block chunk.now.begin chunk.now.end text chunk.now.batches) }
+{
+    block_frame::at_block!(block, write_log(alloc, chunk), unreachable!())
+}
+
+/// The length of the parts of a block's profile.
+fn part_size(block: u32) -> usize
+    requires { is_block block ≡ true }
+    ensures part { result ≡ part_of block }
+    ensures least { 64 ≤ result }
+{
+    match Profile::from_block(block) {
+        Some(profile) => profile.part,
+        None => unreachable!(),
+    }
+}
+
+/// Adds the parts of a batch.
+fn put_batch<const BLOCK: u32>(
+    alloc: Global,
+    frames: &mut FrameWriter<BLOCK, FORMAT>,
+    part: usize,
+    version: u64,
+    bytes: &[u8],
+) -> Result<(), AllocError>
+    requires room { 24 + part ≤ BLOCK }
+    requires part { 64 ≤ part }
+    requires few { length bytes.now ≤ 2 ^ 33 }
+    ensures { OnOk result (frames.new ≡ with_rows BLOCK frames.old (rows_of version 0 (pieces_of part bytes.now))) }
+{
+    let mut rest = bytes;
+    let mut number: u32 = 0;
+    'parts: while rest.len() > part {
+        let (piece, after) = rest.split_at(part);
+        let row = row_bytes(alloc, version, number, piece)?;
+        frames.item(&row, &[])?;
+        rest = after;
+        number += 1;
+    }
+    let row = row_bytes(alloc, version, number, rest)?;
+    frames.item(&row, &[])?;
+    Ok(())
+}
+
+/// A record: the version and the part's number, and the piece.
+fn row_bytes(alloc: Global, version: u64, part: u32, piece: &[u8]) -> Result<Vec<u8>, AllocError>
+    requires { length piece.now < 2 ^ 32 }
+    ensures { IfOk result (λ bytes. bytes.items ≡ row_text (record { key = row_key version part; value = piece.now })) }
+{
+    let mut key = Vec::new(alloc);
+    key.extend_from_slice(&version.to_be_bytes())?;
+    key.extend_from_slice(&part.to_be_bytes())?;
+    let mut bytes = Vec::new(alloc);
+    push_string(&mut bytes, &key)?;
+    push_string(&mut bytes, piece)?;
+    Ok(bytes)
+}
