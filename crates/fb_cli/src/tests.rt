@@ -1,6 +1,6 @@
 use crate::top::{Exit, top};
 use fb_bytes::Text;
-use fb_outside::{Files, MemSink, MemSource, MemVault, Sink};
+use fb_outside::{Failed, Files, MemSink, MemSource, MemVault, Sink};
 use std::alloc::{AllocError, Global};
 use std::test::Fail;
 
@@ -68,5 +68,51 @@ fn texts_that_are_not_built_name_their_line(rt: HostRuntime) -> Result<(), Fail>
         assert_eq!(rt; exit.status, 15);
         assert_eq!(rt; sink.written().as_slice(), said);
     }
+    Ok(())
+}
+
+// A sink that takes a byte at a time. It tells no content.
+#[derive(Drop)]
+struct Dropper {
+    bytes: Vec<u8>,
+    faults: u64,
+}
+
+impl Sink for Dropper {
+    ghost use Rattle.std.specs.Prelude.{None};
+
+    ghost faults = { λ s. s.faults };
+
+    ghost held = { λ _. None };
+
+    fn write(&mut self, piece: &[u8]) -> Result<usize, Failed> {
+        let Some(byte) = piece.first() else {
+            return Ok(0);
+        };
+        match self.bytes.push(*byte) {
+            Ok(()) => Ok(1),
+            Err(_) => {
+                if self.faults < u64::MAX {
+                    self.faults += 1;
+                }
+                Err(Failed)
+            }
+        }
+    }
+
+    fn faults(&self) -> u64 {
+        self.faults
+    }
+}
+
+#[test]
+fn a_sink_may_take_a_byte_at_a_time(rt: HostRuntime) -> Result<(), Fail> {
+    let mut sink = Dropper {
+        bytes: Vec::new(rt.alloc()),
+        faults: 0,
+    };
+    let exit = played(rt.alloc(), EXAMPLE, &[], &mut sink)?;
+    assert_eq!(rt; exit.status, 0);
+    assert_eq!(rt; sink.bytes.as_slice(), REPORT);
     Ok(())
 }
