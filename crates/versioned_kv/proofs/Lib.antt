@@ -1,0 +1,12 @@
+mod Search
+mod Values
+mod Lists
+mod Puts
+mod DigitsOf
+mod Clears
+mod Cuts
+mod Places
+mod Holding
+mod Forgets
+mod Operations
+mod Scans

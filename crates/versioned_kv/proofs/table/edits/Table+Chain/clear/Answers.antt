@@ -1,0 +1,35 @@
+use Rattle.std.proofs.Common.{◌≡◌, suc, ◌+◌, ◌≤◌, List, sym, ap, ◌∙◌, subst, arith}
+use Rattle.mutations.specs.Effects.{range_of}
+use Rattle.versioned_kv.specs.Chains.{Chain, AreChains, value_at}
+use Rattle.versioned_kv.specs.Edits.{AreUpto, Extends, cleared_upto}
+use Rattle.versioned_kv.proofs.Clears.{clears_none, clear_within, clear_step, clear_extends, value_clear}
+use Rattle.versioned_kv.proofs.table.edits.Table+Chain.clear.Goals as goal
+
+pub loop-place-init : goal.loop-place-init
+loop-place-init g c = let e = c.place_of-first.ensures.place in sym (clears_none (range_of c.args.begin.now c.args.end.now) c.args.version c.place_of-first.result c.args.self.now (omega arith))
+
+pub clear_at-requires-clause-place : goal.clear_at-requires-clause-place
+clear_at-requires-clause-place g c = let e = c.place_of-last.ensures.place in clear_within (range_of c.args.begin.now c.args.end.now) c.args.version c.loop-place.place c.args.self.now c.loop-place.self (omega arith) c.loop-place.invariant
+
+pub clear_at-requires-clause-chains : goal.clear_at-requires-clause-chains
+clear_at-requires-clause-chains g c = subst AreChains (sym c.loop-place.invariant) (clear_extends (range_of c.args.begin.now c.args.end.now) c.args.version c.loop-place.place c.args.self.now c.requires.chains c.requires.upto).chains
+
+pub clear_at-requires-clause-upto : goal.clear_at-requires-clause-upto
+clear_at-requires-clause-upto g c = subst (AreUpto c.args.version) (sym c.loop-place.invariant) (clear_extends (range_of c.args.begin.now c.args.end.now) c.args.version c.loop-place.place c.args.self.now c.requires.chains c.requires.upto).upto
+
+pub returns-in_err-clear_at-clause-extends : goal.returns-in_err-clear_at-clause-extends
+returns-in_err-clear_at-clause-extends g c = subst (Extends c.args.version c.args.self.now) (sym (c.in_err-clear_at.ensures.err ∙ c.loop-place.invariant)) (clear_extends (range_of c.args.begin.now c.args.end.now) c.args.version c.loop-place.place c.args.self.now c.requires.chains c.requires.upto)
+
+pub loop-place-preserved : goal.loop-place-preserved
+loop-place-preserved g c =
+    let range = range_of c.args.begin.now c.args.end.now in
+    let first = c.place_of-first.ensures.place in
+    let last = c.place_of-last.ensures.place in
+    let next : suc c.loop-place.place ≡ c.loop-place.place + 1 = omega arith in
+    subst (λ place. c.clear_at.new.self ≡ cleared_upto place range c.args.version c.args.self.now) next (clear_step range c.args.version c.loop-place.place c.args.self.now c.loop-place.self c.clear_at.new.self c.requires.chains (omega arith) (omega arith) c.loop-place.invariant c.in_ok-clear_at.ensures.ok)
+
+pub returns-clause-extends : goal.returns-clause-extends
+returns-clause-extends g c = subst (Extends c.args.version c.args.self.now) (sym c.loop-place.invariant) (clear_extends (range_of c.args.begin.now c.args.end.now) c.args.version c.loop-place.place c.args.self.now c.requires.chains c.requires.upto)
+
+pub returns-clause-ok : goal.returns-clause-ok
+returns-clause-ok g c = λ key. let last = c.place_of-last.ensures.place in ap (λ (chains : List Chain). value_at chains key c.args.version) c.loop-place.invariant ∙ value_clear (range_of c.args.begin.now c.args.end.now) c.args.version c.loop-place.place c.args.self.now key c.requires.chains (omega arith)

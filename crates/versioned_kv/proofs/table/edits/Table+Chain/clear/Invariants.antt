@@ -1,0 +1,7 @@
+use Rattle.std.proofs.Common.{◌≡◌}
+use Rattle.mutations.specs.Effects.{range_of}
+use Rattle.versioned_kv.specs.Edits.{cleared_upto}
+use Rattle.versioned_kv.proofs.table.edits.Table+Chain.clear.Given as goal
+
+abbrev pub invariant-loop-place : goal.invariant-loop-place
+invariant-loop-place g l = l.self ≡ cleared_upto l.place (range_of l.begin l.end) l.version l.initial.self

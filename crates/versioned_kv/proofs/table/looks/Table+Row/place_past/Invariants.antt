@@ -1,0 +1,16 @@
+use Rattle.std.proofs.Common.{◌-◌, ◌≤◌, length}
+use Rattle.versioned_kv.specs.Chains.{rows_upto}
+use Rattle.versioned_kv.proofs.Search.{Halves}
+use Rattle.versioned_kv.proofs.table.looks.Table+Row.place_past.Given as goal
+
+abbrev pub invariant-loop-low : goal.invariant-loop-low
+invariant-loop-low g l = record {
+  ordered : l.low ≤ l.high;
+  within : l.high ≤ length l.self;
+  from : l.low ≤ rows_upto l.version l.self;
+  upto : rows_upto l.version l.self ≤ l.high;
+  halves : Halves (length l.self) (l.high - l.low) l.initial.steps l.steps;
+}
+
+abbrev pub decreases-loop-low : goal.decreases-loop-low
+decreases-loop-low g l = l.high - l.low

@@ -1,0 +1,239 @@
+ghost use Rattle.std.specs.Prelude.{◌≡◌, suc, ◌-◌, ◌<◌, true, [], ◌∷◌, ◌++◌, length, take, drop, slice_get, slice_set, Some, None, IfOk, OnOk, OnErr, if◌then◌else◌};
+ghost use Rattle.fb_bytes.specs.Bytes.{Bytes, is_same};
+ghost use Rattle.fb_bytes.specs.Keys.{holds};
+ghost use Rattle.mutations.specs.Effects.{range_of};
+ghost use Rattle.versioned_kv.specs.declared.chain.Chain.{Chain};
+ghost use Rattle.versioned_kv.specs.Chains.{AreChains, AreRising, value_at};
+ghost use Rattle.versioned_kv.specs.Edits.{AreRowsUpto, AreUpto, put_row, put_at, without_rows, is_chain_of, is_row_of, clear_chain, with_rows, without, Extends};
+ghost use Rattle.versioned_kv.specs.Forgotten.{forgotten, forget_chain, all_forgotten};
+
+use super::Table;
+use crate::Steps;
+use crate::chain::{Chain, Row};
+use fb_bytes::{Blob, is_same};
+use std::alloc::{AllocError, Global};
+use std::sync::ledger::Ledger;
+
+impl Table<Row> {
+    /// Puts a row at the end, in place of another of its version.
+    pub fn put<L: Ledger>(&mut self, row: Row, steps: &mut Steps<L>) -> Result<(), AllocError>
+        requires rising { AreRising self.old }
+        requires upto { AreRowsUpto row.version self.old }
+        ensures ok { OnOk result (self.new ≡ put_row row self.old) }
+        ensures err { OnErr result (self.new ≡ self.old) }
+    {
+        if self.ends_at(row.version, steps) {
+            let last = self.len() - 1;
+            self.items[last] = row;
+            return Ok(());
+        }
+        self.items.push(row)?;
+        Ok(())
+    }
+
+    /// Takes the row of a version away, which isn't past it.
+    pub fn cut<L: Ledger>(&mut self, version: u64, steps: &mut Steps<L>)
+        requires rising { AreRising self.old }
+        requires upto { AreRowsUpto version self.old }
+        ensures { self.new ≡ without_rows version self.old }
+    {
+        if self.ends_at(version, steps) {
+            let rest = self.len() - 1;
+            self.items.truncate(rest);
+        }
+    }
+
+    /// Forgets the rows before the last one at or below the oldest version.
+    pub fn forget<L: Ledger>(&mut self, oldest: u64, steps: &mut Steps<L>)
+        requires { AreRising self.old }
+        ensures { self.new ≡ forgotten oldest self.old }
+    {
+        let upto = self.place_past(oldest, steps);
+        if upto > 1 {
+            let rest = self.items.len() - (upto - 1);
+            self.items.rotate_left(upto - 1);
+            self.items.truncate(rest);
+        }
+    }
+
+    /// Whether the last row, if there is one, is of the version.
+    fn ends_at<L: Ledger>(&self, version: u64, steps: &mut Steps<L>) -> bool
+        ensures last { result ≡ is_row_of version (slice_get self.now (length self.now - 1)) }
+        ensures some { result ≡ true → 0 < length self.now }
+    {
+        let len = self.len();
+        if len == 0 {
+            return false;
+        }
+        self.at(len - 1, steps).version == version
+    }
+}
+
+impl Chain {
+    /// A key with its first row.
+    pub fn of_row(alloc: Global, key: &[u8], row: Row) -> Result<Self, AllocError>
+        ensures { IfOk result (λ chain. chain ≡ record { key = key.now; rows = row ∷ [] }) }
+    {
+        let mut rows = Vec::new(alloc);
+        rows.push(row)?;
+        let key = Blob::from_slice(alloc, key)?;
+        Ok(Chain {
+            key,
+            rows: Table { items: rows },
+        })
+    }
+}
+
+impl Chain {
+    /// Takes the value away, where there is one.
+    fn clear<L: Ledger>(&mut self, version: u64, steps: &mut Steps<L>) -> Result<(), AllocError>
+        requires rising { AreRising self.old.rows }
+        requires upto { AreRowsUpto version self.old.rows }
+        ensures ok { OnOk result (self.new ≡ clear_chain version self.old) }
+        ensures err { OnErr result (self.new ≡ self.old) }
+    {
+        if self.rows.value(version, steps).is_none() {
+            return Ok(());
+        }
+        let row = Row {
+            version,
+            value: None,
+        };
+        self.rows.put(row, steps)
+    }
+}
+
+impl Table<Chain> {
+    /// Puts a row at the end of the rows of a key.
+    fn put<L: Ledger>(
+        &mut self,
+        key: &[u8],
+        row: Row,
+        steps: &mut Steps<L>,
+    ) -> Result<(), AllocError>
+        requires chains { AreChains self.old }
+        requires upto { AreUpto row.version self.old }
+        ensures ok { OnOk result (self.new ≡ put_at key.now row self.old) }
+        ensures err { OnErr result (self.new ≡ self.old) }
+    {
+        let place = self.place_of(key, steps);
+        if self.is_at(place, key, steps) {
+            let chain = &mut self.items[place];
+            return chain.rows.put(row, steps);
+        }
+        let chain = Chain::of_row(*self.items.allocator(), key, row)?;
+        self.items.insert(place, chain)?;
+        Ok(())
+    }
+
+    /// Puts a row at the end of the rows of a key, which are of its version or older.
+    pub fn write<L: Ledger>(
+        &mut self,
+        key: &[u8],
+        row: Row,
+        steps: &mut Steps<L>,
+    ) -> Result<(), AllocError>
+        requires chains { AreChains self.old }
+        requires upto { AreUpto row.version self.old }
+        ensures extends { Extends row.version self.old self.new }
+        ensures ok { OnOk result ((at : Bytes) → value_at self.new at row.version ≡ (if is_same key.now at then row.value else value_at self.old at row.version)) }
+    {
+        self.put(key, row, steps)
+    }
+
+    /// Whether the chain at a place, if there is one, is that of the key.
+    fn is_at<L: Ledger>(&self, place: usize, key: &[u8], steps: &mut Steps<L>) -> bool
+        ensures { result ≡ is_chain_of key.now (slice_get self.now place) }
+    {
+        if place >= self.len() {
+            return false;
+        }
+        is_same(self.at(place, steps).key.as_slice(), key)
+    }
+
+    /// Takes the value of the chain at a place away.
+    fn clear_at<L: Ledger>(
+        &mut self,
+        place: usize,
+        version: u64,
+        steps: &mut Steps<L>,
+    ) -> Result<(), AllocError>
+        requires place { place < length self.old }
+        requires chains { AreChains self.old }
+        requires upto { AreUpto version self.old }
+        ensures ok { OnOk result ((chain : Chain) → slice_get self.old place ≡ Some chain → self.new ≡ slice_set self.old place (clear_chain version chain)) }
+        ensures err { OnErr result (self.new ≡ self.old) }
+    {
+        let chain = &mut self.items[place];
+        chain.clear(version, steps)
+    }
+
+    /// Takes the values of the keys of a range away. Without memory some may be left.
+    pub fn clear<L: Ledger>(
+        &mut self,
+        begin: &[u8],
+        end: &[u8],
+        version: u64,
+        steps: &mut Steps<L>,
+    ) -> Result<(), AllocError>
+        requires chains { AreChains self.old }
+        requires upto { AreUpto version self.old }
+        ensures extends { Extends version self.old self.new }
+        ensures ok { OnOk result ((key : Bytes) → value_at self.new key version ≡ (if holds (range_of begin.now end.now) key then None else value_at self.old key version)) }
+    {
+        let first = self.place_of(begin, steps);
+        let last = self.place_of(end, steps);
+        for place in first..last {
+            self.clear_at(place, version, steps)?;
+        }
+        Ok(())
+    }
+
+    /// Takes the row of a version from the chain at a place, and the chain with its last row.
+    fn cut_at<L: Ledger>(&mut self, place: usize, version: u64, steps: &mut Steps<L>)
+        requires place { place < length self.old }
+        requires rows { (chain : Chain) → slice_get self.old place ≡ Some chain → AreRising chain.rows × AreRowsUpto version chain.rows }
+        ensures { (chain : Chain) → slice_get self.old place ≡ Some chain → self.new ≡ take place self.old ++ with_rows chain.key (without_rows version chain.rows) (drop (suc place) self.old) }
+    {
+        let chain = &mut self.items[place];
+        chain.rows.cut(version, steps);
+        let is_empty = chain.rows.len() == 0;
+        if is_empty {
+            self.items.remove(place);
+        }
+    }
+
+    /// Takes the rows of a version away, to which no row is newer. It takes no memory.
+    pub fn cut_all<L: Ledger>(&mut self, version: u64, steps: &mut Steps<L>)
+        requires chains { AreChains self.old }
+        requires upto { AreUpto version self.old }
+        ensures { self.new ≡ without version self.old }
+    {
+        let mut place = self.len();
+        while place > 0 {
+            place -= 1;
+            self.cut_at(place, version, steps);
+        }
+    }
+
+    /// Forgets, of the chain at a place, the rows before the last one at or below the oldest version.
+    fn forget_at<L: Ledger>(&mut self, place: usize, oldest: u64, steps: &mut Steps<L>)
+        requires place { place < length self.old }
+        requires rising { (chain : Chain) → slice_get self.old place ≡ Some chain → AreRising chain.rows }
+        ensures { (chain : Chain) → slice_get self.old place ≡ Some chain → self.new ≡ slice_set self.old place (forget_chain oldest chain) }
+    {
+        let chain = &mut self.items[place];
+        chain.rows.forget(oldest, steps);
+    }
+
+    /// Forgets, of each key, the rows before the last one at or below the oldest version. It takes
+    /// no memory.
+    pub fn forget_all<L: Ledger>(&mut self, oldest: u64, steps: &mut Steps<L>)
+        requires { AreChains self.old }
+        ensures { self.new ≡ all_forgotten oldest self.old }
+    {
+        for place in 0..self.len() {
+            self.forget_at(place, oldest, steps);
+        }
+    }
+}
