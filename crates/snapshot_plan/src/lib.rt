@@ -1,0 +1,14 @@
+//! Snapshots: the pieces of a job's ranges, and the files that were noted for them.
+#![tactic(auto)]
+
+mod fault;
+mod file_map;
+mod laws;
+mod pieces;
+
+pub use fault::MapFault;
+pub use file_map::{Done, FileMap, Noted};
+pub use laws::piece_law;
+
+#[cfg(test)]
+mod tests;
