@@ -1,0 +1,17 @@
+pub mod Basics
+pub mod Replays
+pub mod Best
+pub mod Chains
+pub mod Faithful
+pub mod Whole
+pub mod Reached
+pub mod Kept
+pub mod Restore
+pub mod Lists
+pub mod Files
+pub mod Stores
+pub mod Honest
+pub mod Decimal
+pub mod Names
+pub mod Stripped
+pub mod Rows

@@ -1,0 +1,67 @@
+-- Stores in which a container's files are honest, and the steps that keep them so.
+use Rattle.std.specs.Prelude.{◌≡◌, ℕ, ◌<◌, ◌≤◌, List, Some, None}
+use Rattle.fb_bytes.specs.Bytes.{Bytes}
+use Rattle.fb_outside.specs.Files.{AreFiles, file_of, with_file, without_file}
+use Rattle.fb_outside.specs.declared.File.{File}
+use Rattle.file_names.specs.declared.Name.{Name}
+use Rattle.file_names.specs.declared.Name.TheVariants.{Range, Log, Manifest, Unreliable, Expired, Other}
+use Rattle.file_names.specs.Reading.{name_of}
+use Rattle.container_view.specs.Folder.{Folder}
+use Rattle.container_view.specs.Law.{Source, IsHonestRange, IsHonestLog, IsHonestManifest, IsHonest, IsFaithful}
+use Rattle.container_view.specs.Changes.{Grows}
+use Rattle.container_view.specs.Property.{property_of}
+use Rattle.container_view.specs.Files.{Grammars, name_in, range_file, log_file, manifest_file, folder_in}
+
+-- the container's files in the store spell an honest folder
+pub record IsHonestStore (g : Grammars) (s : Source) (container : Bytes) (files : List File) : Type 0 where
+  pub folder : Folder
+  pub decoded : folder_in g container files ≡ Some folder
+  pub honest : IsHonest s folder
+
+-- the container's files in the store spell a faithful folder
+pub record IsFaithfulStore (g : Grammars) (s : Source) (container : Bytes) (files : List File) : Type 0 where
+  pub folder : Folder
+  pub decoded : folder_in g container files ≡ Some folder
+  pub faithful : IsFaithful s folder
+
+-- what a new file owes, by what its name says; the folder is the one that it comes into
+abbrev pub IsHonestFile : Grammars → Source → Folder → Bytes → Bytes → Name → Type 0
+IsHonestFile g s folder name bytes (Range snapshot version ticket block) = IsHonestRange s (range_file g name bytes version block)
+IsHonestFile g s folder name bytes (Log begin end ticket block) = IsHonestLog s (log_file g name bytes begin end block)
+IsHonestFile g s folder name bytes (Manifest begin end size ticket) = folder.unreliable ≤ begin → IsHonestManifest s folder.ranges (manifest_file g name bytes (Manifest begin end size ticket) begin end)
+IsHonestFile g s folder name bytes Unreliable = (end : ℕ) × (property_of bytes ≡ Some end) × (folder.unreliable ≤ end)
+IsHonestFile g s folder name bytes Expired = Unit {0}
+IsHonestFile g s folder name bytes Other = Unit {0}
+
+-- a file may be deleted, by what its name says
+abbrev pub MayGo : Folder → Name → Type 0
+MayGo folder (Range snapshot version ticket block) = version < folder.unreliable
+MayGo folder (Log begin end ticket block) = Unit {0}
+MayGo folder (Manifest begin end size ticket) = Unit {0}
+MayGo folder Unreliable = ⊥
+MayGo folder Expired = Unit {0}
+MayGo folder Other = Unit {0}
+
+-- a property, which a put may replace
+abbrev pub IsProperty : Name → Type 0
+IsProperty (Range snapshot version ticket block) = ⊥
+IsProperty (Log begin end ticket block) = ⊥
+IsProperty (Manifest begin end size ticket) = ⊥
+IsProperty Unreliable = Unit {0}
+IsProperty Expired = Unit {0}
+IsProperty Other = ⊥
+
+pub record HonestStoreLaw : Type 0 where
+  -- an honest container is faithful, in whatever store
+  pub faithful : (g : Grammars) (s : Source) (container : Bytes) (files : List File) → IsHonestStore g s container files → IsFaithfulStore g s container files
+  -- it stays honest while the history grows
+  pub grows : (g : Grammars) (old new : Source) (container : Bytes) (files : List File) → Grows old new → IsHonestStore g old container files → IsHonestStore g new container files
+  -- it stays honest as an honest file comes under a new name
+  pub put : (g : Grammars) (s : Source) (container whole name bytes : Bytes) (files : List File) (h : IsHonestStore g s container files) → AreFiles files → name_in container whole ≡ Some name → file_of files whole ≡ None → IsHonestFile g s h.folder name bytes (name_of name) → IsHonestStore g s container (with_file files whole bytes)
+  -- and as a property is put, whether or not it was there
+  pub set : (g : Grammars) (s : Source) (container whole name bytes : Bytes) (files : List File) (h : IsHonestStore g s container files) → AreFiles files → name_in container whole ≡ Some name → IsProperty (name_of name) → IsHonestFile g s h.folder name bytes (name_of name) → IsHonestStore g s container (with_file files whole bytes)
+  -- and as a file is deleted that may go
+  pub delete : (g : Grammars) (s : Source) (container whole name : Bytes) (files : List File) (h : IsHonestStore g s container files) → AreFiles files → name_in container whole ≡ Some name → MayGo h.folder (name_of name) → IsHonestStore g s container (without_file files whole)
+  -- and as any file comes or goes that isn't in the container
+  pub put_elsewhere : (g : Grammars) (s : Source) (container whole bytes : Bytes) (files : List File) → IsHonestStore g s container files → name_in container whole ≡ None → IsHonestStore g s container (with_file files whole bytes)
+  pub deleted_elsewhere : (g : Grammars) (s : Source) (container whole : Bytes) (files : List File) → IsHonestStore g s container files → name_in container whole ≡ None → IsHonestStore g s container (without_file files whole)

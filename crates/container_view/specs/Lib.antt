@@ -1,0 +1,16 @@
+pub mod Folder
+pub mod Chain
+pub mod Advertised
+pub mod Meaning
+pub mod Law
+pub mod Changes
+pub mod Choices
+pub mod Bounds
+pub mod Restore
+pub mod View
+pub mod Property
+pub mod Files
+pub mod Contents
+pub mod Stores
+pub mod Honest
+pub mod Names

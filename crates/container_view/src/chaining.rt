@@ -1,0 +1,155 @@
+//! Chains of log files, from the names of a container's files alone.
+
+ghost use Rattle.std.specs.Prelude.{◌≡◌, ℕ, ◌<◌, List, [], length, IfOk, IfSome, option_map};
+ghost use Rattle.container_view.specs.Chain as spec;
+ghost use Rattle.container_view.specs.Names.{chain_named, logs_named, seen, better_log};
+ghost use Rattle.file_names.specs.Reading.{name_of};
+
+use fb_bytes::{Names, Text, is_below};
+use file_names::{Name, parse};
+use std::alloc::{AllocError, Global};
+use std::marker::Model;
+
+/// A log file of a chain, and the versions that it gives: from `from` on and before `to`.
+#[derive(Debug, Drop)]
+pub struct Link {
+    /// The name in the container.
+    pub name: Text,
+    pub from: u64,
+    pub to: u64,
+}
+
+impl Link {
+    /// An equal link with memory of its own.
+    pub fn copy(&self) -> Result<Self, AllocError>
+        ensures { IfOk result (λ link. link ≡ self.now) }
+    {
+        let name = self.name.copy()?;
+        Ok(Link {
+            name,
+            from: self.from,
+            to: self.to,
+        })
+    }
+}
+
+/// The links of a chain, in the order of their versions.
+#[derive(Debug, Drop)]
+pub struct Links {
+    links: Vec<Link>,
+}
+
+impl Model for Links {
+    ghost use Rattle.std.specs.Prelude.{List};
+    ghost use Rattle.container_view.specs.declared.chaining.Link.{Link};
+
+    ghost Value = { List Link };
+
+    ghost view = { λ list. list.links.items };
+}
+
+impl Links {
+    /// The same links, with no copy.
+    pub fn from_vec(links: Vec<Link>) -> Self
+        ensures { result ≡ links.items }
+    {
+        Links { links }
+    }
+
+    /// The same links, with no copy.
+    pub fn into_vec(self) -> Vec<Link>
+        ensures { result.items ≡ self }
+    {
+        let Links { links } = self;
+        links
+    }
+
+    pub fn as_slice(&self) -> &[Link]
+        ensures { result.now ≡ self.now }
+    {
+        &self.links
+    }
+
+    pub fn len(&self) -> usize
+        ensures { result ≡ length self.now }
+    {
+        self.links.len()
+    }
+
+    /// An equal list with memory of its own.
+    pub fn copy(&self, alloc: Global) -> Result<Self, AllocError>
+        ensures { IfOk result (λ links. links ≡ self.now) }
+    {
+        let mut links = Vec::new(alloc);
+        for link in &self.links {
+            let link = link.copy()?;
+            links.push(link)?;
+        }
+        Ok(Links { links })
+    }
+}
+
+/// The chain of log files from `from` until it reaches `to`, of a container with these names. There
+/// is none where no log file has some version between.
+pub fn chain(alloc: Global, names: &Names, from: u64, to: u64) -> Result<Option<Links>, AllocError>
+    ensures { IfOk result (λ links. links ≡ chain_named names.now from to) }
+{
+    let mut links = Vec::new(alloc);
+    let mut version = from;
+    'links: while version < to {
+        let Some((name, end)) = best_log(names.as_slice(), version) else {
+            return Ok(None);
+        };
+        let name = name.copy()?;
+        links.push(Link {
+            name,
+            from: version,
+            to: end,
+        })?;
+        version = end;
+    }
+    Ok(Some(Links { links }))
+}
+
+/// Of the log files that have the version, the name and end of the one that comes first.
+pub(crate) fn best_log(names: &[Text], version: u64) -> Option<(&Text, u64)>
+    ensures same { option_map (λ x. (x.0.now, x.1)) result ≡ seen (spec.best_log (logs_named names.now) version) }
+    ensures later { IfSome result (λ x. version < x.1) }
+{
+    let mut best = None;
+    'names: for name in names {
+        best = better_log(best, name, version);
+    }
+    best
+}
+
+/// The better of the best log so far and the file of one name more.
+fn better_log<'a>(
+    best: Option<(&'a Text, u64)>,
+    name: &'a Text,
+    version: u64,
+) -> Option<(&'a Text, u64)>
+    ensures { option_map (λ x. (x.0.now, x.1)) result ≡ better_log version (option_map (λ x. (x.0.now, x.1)) best.entry) name.now (name_of name.now) }
+{
+    let Name::Log { begin, end, .. } = parse(name.as_bytes()) else {
+        return best;
+    };
+    if version < begin || end <= version {
+        return best;
+    }
+    let Some((other, other_end)) = best else {
+        return Some((name, end));
+    };
+    if comes_first(end, name.as_bytes(), other_end, other.as_bytes()) {
+        Some((name, end))
+    } else {
+        best
+    }
+}
+
+/// Whether a file with the greater end or, of two with one end, the lesser name comes first.
+pub(crate) fn comes_first(end: u64, name: &[u8], other_end: u64, other: &[u8]) -> bool
+    ensures { result ≡ spec.comes_first end name.now other_end other.now }
+{
+    end > other_end || (end == other_end && is_below(name, other))
+}
