@@ -1,0 +1,6 @@
+mod KeyOrder
+mod Cutting
+mod Orders
+mod Groups
+mod Puts
+mod LogLaws
