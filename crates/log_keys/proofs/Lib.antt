@@ -4,3 +4,5 @@ mod Orders
 mod Groups
 mod Puts
 mod LogLaws
+mod Places
+mod Joins

@@ -72,6 +72,13 @@ same_itself a b = rw (eq-eqb a a refl, eq-eqb b b refl) refl
 pub before_version : (a b c d : ℕ) → a ≡ c → before a b c d ≡ true → b < d
 before_version a b c d e h = elim (before_is a b c d h) [ inl lt ↦ absurd (omega arith) | inr p ↦ p.1 ]
 
+-- before the first part of a version
+pub before_start : (a b c : ℕ) → before a b c 0 ≡ true → a < c
+before_start a b c h = elim (before_is a b c 0 h) [ inl lt ↦ lt | inr p ↦ (let lt = p.1 in absurd (omega arith)) ]
+
+pub start_before : (a b c : ℕ) → a < c → before a b c 0 ≡ true
+start_before a b c lt = before_less a b c 0 lt
+
 pub same_is : (a b c d : ℕ) → same a b c d ≡ true → (a ≡ c) × (b ≡ d)
 same_is a b c d h = let p = and_parts (eqb a c) (eqb b d) h in (eqb-true a c p.0, eqb-true b d p.1)
 

@@ -1,5 +1,5 @@
 -- What a log holds: a batch for each job and version, and what each call leaves of them.
-use Rattle.std.specs.Prelude.{◌≡◌, ℕ, Bool, true, false, not, nat_lt, ◌==◌, ◌&&◌, ◌||◌, List, [], ◌∷◌, map, Option, Some, None, if◌then◌else◌}
+use Rattle.std.specs.Prelude.{◌≡◌, ℕ, ◌<◌, Bool, true, false, not, nat_lt, ◌==◌, ◌&&◌, ◌||◌, List, [], ◌∷◌, map, Option, Some, None, if◌then◌else◌}
 use Rattle.std.specs.List.{AllByRecursion, filter}
 use Rattle.fb_bytes.specs.Bytes.{Bytes}
 use Rattle.mutations.specs.declared.mutation.Mutation.{Mutation}
@@ -73,3 +73,11 @@ logged_at job version (one ∷ others) = if (one.job == job) && (one.version == 
 abbrev pub batch_at : ℕ → List Batch → Option (List Mutation)
 batch_at version [] = None
 batch_at version (batch ∷ batches) = if batch.version == version then Some batch.muts else batch_at version batches
+
+-- its version is past all others of its job
+abbrev pub IsNewest : Standing → List Standing → Type 0
+IsNewest one log = AllByRecursion (λ other. other.job ≡ one.job → other.version < one.version) log
+
+-- no version is this one
+abbrev pub AreOfOthers : ℕ → List Standing → Type 0
+AreOfOthers version log = AllByRecursion (λ one. (one.version == version) ≡ false) log

@@ -3,29 +3,21 @@
 ghost use Rattle.std.specs.Prelude.{◌≡◌, ◌++◌, List, ◌∷◌, map, IfOk};
 ghost use Rattle.std.specs.List.{All};
 ghost use Rattle.log_keys.specs.Parts.{Row};
-ghost use Rattle.log_keys.specs.Table.{Whole, IsRead, goes_on, joined, joined_onto, joined_with, whole_of, with_piece, rows_between, batch_in};
+ghost use Rattle.log_keys.specs.Table.{Whole, IsRead, goes_on, joined, joined_onto, joined_with, whole_of, with_piece, batch_in};
 
 use crate::row::Row;
 use crate::whole::Whole;
 use mutations::{Batch, Batches, WireFault, decode_batch};
 use std::alloc::{AllocError, Global};
 
-/// The parts of a job from `begin` on and before `end`, those of each version joined.
-pub fn joined_between(
-    alloc: Global,
-    rows: &[Row],
-    job: u64,
-    begin: u64,
-    end: u64,
-) -> Result<Vec<Whole>, AllocError>
-    ensures { IfOk result (λ wholes. wholes.items ≡ joined (rows_between job begin end rows.now)) }
+/// The parts of each job and version joined.
+pub fn all_joined(alloc: Global, rows: &[Row]) -> Result<Vec<Whole>, AllocError>
+    ensures { IfOk result (λ wholes. wholes.items ≡ joined rows.now) }
 {
     let mut wholes = Vec::new(alloc);
     let mut last = None;
     for row in rows {
-        if row.is_between(job, begin, end) {
-            last = Some(taken(&mut wholes, last, row)?);
-        }
+        last = Some(taken(&mut wholes, last, row)?);
     }
     if let Some(whole) = last {
         wholes.push(whole)?;

@@ -10,7 +10,8 @@ mod table;
 mod whole;
 
 pub use laws::{
-    erase_law, join_law, join_order_law, key_order_law, one_key_law, put_law, retract_law,
+    erase_join_law, erase_law, join_law, join_order_law, key_order_law, newest_law, one_key_law,
+    put_law, retract_law, undo_law, unused_law,
 };
 pub use logs::LogKeys;
 

@@ -2,10 +2,10 @@ ghost use Rattle.std.specs.Prelude.{◌≡◌, ◌*◌, ◌<◌, ◌≤◌, ◌^
 ghost use Rattle.mutations.specs.declared.mutation.Mutation.{Mutation};
 ghost use Rattle.log_keys.specs.Logs.{IsBatch, Spells, AreOrdered, stands, with_one, batches_between, erased, without};
 
-use crate::joining::{batches_of, joined_between};
+use crate::joining::{all_joined, batches_of};
 use crate::key::LogKey;
 use crate::row::Row;
-use crate::table::{erase, has_part, insert_all, parts_of, place_of, retract};
+use crate::table::{erase, has_part, insert_all, parts_of, place_of, retract, rows_between};
 use mutations::LogChunk;
 use std::alloc::{AllocError, Global};
 use std::marker::Model;
@@ -83,7 +83,8 @@ impl LogKeys {
         ensures { IfOk result (λ chunk. chunk ≡ record { begin = begin; end = end; batches = batches_between job begin end self.now }) }
     {
         let alloc = *self.rows.allocator();
-        let wholes = joined_between(alloc, &self.rows, job, begin, end)?;
+        let rows = rows_between(alloc, &self.rows, job, begin, end)?;
+        let wholes = all_joined(alloc, rows)?;
         let batches = batches_of(alloc, &wholes)?;
         Ok(LogChunk {
             begin,

@@ -1,5 +1,5 @@
 ghost use Rattle.std.specs.Prelude.{◌≡◌, ◌==◌, ◌&&◌};
-ghost use Rattle.log_keys.specs.Logs.{is_between, is_older};
+ghost use Rattle.log_keys.specs.Logs.{is_older};
 
 use crate::key::LogKey;
 use fb_bytes::Blob;
@@ -12,14 +12,6 @@ pub struct Row {
 }
 
 impl Row {
-    /// Whether it is of the job and of a version from `begin` on and before `end`.
-    pub fn is_between(&self, job: u64, begin: u64, end: u64) -> bool
-        ensures { result ≡ is_between job begin end self.now.key.job self.now.key.version }
-    {
-        let version = self.key.version();
-        self.key.job() == job && begin <= version && version < end
-    }
-
     /// Whether it is of the job and of a version before `below`.
     pub fn is_older(&self, job: u64, below: u64) -> bool
         ensures { result ≡ is_older job below self.now.key.job self.now.key.version }

@@ -4,7 +4,7 @@ ghost use Rattle.std.specs.Prelude.{◌≡◌, ◌+◌, ◌*◌, ◌<◌, ◌≤
 ghost use Rattle.std.specs.List.{filter};
 ghost use Rattle.log_keys.specs.Logs.{is_older};
 ghost use Rattle.log_keys.specs.Parts.{rows_from, pieces_of};
-ghost use Rattle.log_keys.specs.Table.{keys_below, has_part};
+ghost use Rattle.log_keys.specs.Table.{AreRising, keys_below, has_part, rows_between};
 
 use crate::key::LogKey;
 use crate::row::Row;
@@ -48,17 +48,29 @@ fn row_of(alloc: Global, job: u64, version: u64, part: u32, piece: &[u8]) -> Res
 
 /// How many keys at the front are below a key.
 pub fn place_of(rows: &[Row], key: &LogKey) -> usize
+    requires { AreRising rows.now }
     ensures place { result ≡ keys_below key.now rows.now }
     ensures within { result ≤ length rows.now }
 {
-    let mut place = 0;
-    for row in rows {
-        if !row.key.is_below(key) {
-            return place;
-        }
-        place += 1;
-    }
-    place
+    rows.partition_point(|row| row.key.is_below(key))
+}
+
+/// The parts of a job from the version `begin` on and before `end`, which stand side by side.
+pub fn rows_between(
+    alloc: Global,
+    rows: &[Row],
+    job: u64,
+    begin: u64,
+    end: u64,
+) -> Result<&[Row], AllocError>
+    requires { AreRising rows.now }
+    ensures { IfOk result (λ found. found.now ≡ rows_between job begin end rows.now) }
+{
+    let begin = LogKey::new(alloc, job, begin, 0)?;
+    let end = LogKey::new(alloc, job, end, 0)?;
+    let first = place_of(rows, &begin);
+    let last = place_of(rows, &end);
+    Ok(&rows[first..first.max(last)])
 }
 
 /// Whether some part is of the job and the version.

@@ -2,9 +2,12 @@ use Rattle.std.proofs.Common.{◌≡◌, ℕ, List, ◌++◌, take, drop, sym, a
 use Rattle.log_keys.specs.Keys.{Key}
 use Rattle.log_keys.specs.Logs.{stands, with_one}
 use Rattle.log_keys.specs.Parts.{Row}
-use Rattle.log_keys.specs.Table.{IsTable, log_in, keys_below}
+use Rattle.log_keys.specs.Table.{AreRising, IsTable, log_in, keys_below}
 use Rattle.log_keys.proofs.Puts.{key_at, put_rows, table_with, log_put}
 use Rattle.log_keys.proofs.logs.LogKeys.put_batch.Goals as goal
+
+pub place_of-place-requires : goal.place_of-place-requires
+place_of-place-requires c = subst AreRising (sym c.deref.ensures.value) c.self.invariant.rise
 
 pub invariant_of-self-2 : goal.invariant_of-self-2
 invariant_of-self-2 c =
