@@ -1,0 +1,5 @@
+pub mod Keys
+pub mod Laws
+pub mod Logs
+pub mod Parts
+pub mod Table

@@ -1,0 +1,113 @@
+//! Changes of the table of parts.
+
+ghost use Rattle.std.specs.Prelude.{◌≡◌, ◌+◌, ◌*◌, ◌<◌, ◌≤◌, ◌^◌, ◌==◌, ◌&&◌, not, ◌++◌, length, take, drop, IfOk, OnOk, OnErr};
+ghost use Rattle.std.specs.List.{filter};
+ghost use Rattle.log_keys.specs.Logs.{is_older};
+ghost use Rattle.log_keys.specs.Parts.{rows_from, pieces_of};
+ghost use Rattle.log_keys.specs.Table.{AreRising, keys_below, has_part, rows_between};
+
+use crate::key::LogKey;
+use crate::row::Row;
+use fb_bytes::Blob;
+use std::alloc::{AllocError, Global};
+
+/// The parts of a batch, each but the last one with `part` bytes.
+pub fn parts_of(
+    alloc: Global,
+    job: u64,
+    version: u64,
+    batch: &[u8],
+    part: usize,
+) -> Result<Vec<Row>, AllocError>
+    requires some { 0 < part }
+    requires few { length batch.now ≤ 2 ^ 32 * part }
+    ensures { IfOk result (λ rows. rows.items ≡ rows_from job version 0 (pieces_of part batch.now)) }
+{
+    let mut rows = Vec::new(alloc);
+    let mut rest = batch;
+    let mut number: u32 = 0;
+    'parts: while rest.len() > part {
+        let (piece, after) = rest.split_at(part);
+        let row = row_of(alloc, job, version, number, piece)?;
+        rows.push(row)?;
+        rest = after;
+        number += 1;
+    }
+    let row = row_of(alloc, job, version, number, rest)?;
+    rows.push(row)?;
+    Ok(rows)
+}
+
+fn row_of(alloc: Global, job: u64, version: u64, part: u32, piece: &[u8]) -> Result<Row, AllocError>
+    ensures { IfOk result (λ row. row ≡ record { key = record { job = job; version = version; part = part }; piece = piece.now }) }
+{
+    let key = LogKey::new(alloc, job, version, part)?;
+    let piece = Blob::from_slice(alloc, piece)?;
+    Ok(Row { key, piece })
+}
+
+/// How many keys at the front are below a key.
+pub fn place_of(rows: &[Row], key: &LogKey) -> usize
+    requires { AreRising rows.now }
+    ensures place { result ≡ keys_below key.now rows.now }
+    ensures within { result ≤ length rows.now }
+{
+    rows.partition_point(|row| row.key.is_below(key))
+}
+
+/// The parts of a job from the version `begin` on and before `end`, which stand side by side.
+pub fn rows_between(
+    alloc: Global,
+    rows: &[Row],
+    job: u64,
+    begin: u64,
+    end: u64,
+) -> Result<&[Row], AllocError>
+    requires { AreRising rows.now }
+    ensures { IfOk result (λ found. found.now ≡ rows_between job begin end rows.now) }
+{
+    let begin = LogKey::new(alloc, job, begin, 0)?;
+    let end = LogKey::new(alloc, job, end, 0)?;
+    let first = place_of(rows, &begin);
+    let last = place_of(rows, &end);
+    Ok(&rows[first..first.max(last)])
+}
+
+/// Whether some part is of the job and the version.
+pub fn has_part(rows: &[Row], job: u64, version: u64) -> bool
+    ensures { result ≡ has_part job version rows.now }
+{
+    for row in rows {
+        if row.is_of(job, version) {
+            return true;
+        }
+    }
+    false
+}
+
+/// Puts rows in at a place. Without memory nothing changes.
+pub fn insert_all(rows: &mut Vec<Row>, place: usize, more: Vec<Row>) -> Result<(), AllocError>
+    requires { place ≤ length rows.old.items }
+    ensures ok { OnOk result (rows.new.items ≡ take place rows.old.items ++ more.items ++ drop place rows.old.items) }
+    ensures err { OnErr result (rows.new.items ≡ rows.old.items) }
+{
+    let mut more = more;
+    let count = more.len();
+    rows.append(&mut more)?;
+    rows[place..].rotate_right(count);
+    Ok(())
+}
+
+/// Takes the parts of a job out that are of versions before `below`.
+pub fn erase(rows: &mut Vec<Row>, job: u64, below: u64)
+    ensures { rows.new.items ≡ filter (λ row. not (is_older job below row.key.job row.key.version)) rows.old.items }
+{
+    rows.retain(|row| !row.is_older(job, below));
+}
+
+/// Takes the parts of a version out.
+pub fn retract(rows: &mut Vec<Row>, version: u64)
+    ensures { rows.new.items ≡ filter (λ row. not (row.key.version == version)) rows.old.items }
+{
+    rows.retain(|row| row.key.version() != version);
+}
