@@ -185,3 +185,112 @@ fn a_thousand_keys_with_three_versions(rt: HostRuntime) -> Result<(), Fail> {
     }
     Ok(())
 }
+
+/// A step of a sequence, by its kind: 0 sets a key, 1 clears the keys from `a` to a key, 2 retracts the
+/// version, 3 forgets what is before it.
+type Change = (u8, u8, u8);
+
+/// A row of the plain list: a version, a key, and what the version left there.
+type Left = (u64, u8, Option<u8>);
+
+/// What the plain list has at a key and a version: its last row there.
+fn in_list(rows: &[Left], key: u8, version: u64) -> Option<u8> {
+    let mut value = None;
+    for row in rows {
+        if row.1 == key && row.0 <= version {
+            value = row.2;
+        }
+    }
+    value
+}
+
+/// Makes a change of a store and of the plain list.
+fn make(
+    alloc: Global,
+    store: &mut Store,
+    rows: &mut Vec<Left>,
+    change: Change,
+) -> Result<(), Fail> {
+    let (kind, number, key) = change;
+    let version = u64::from(number);
+    if kind == 0 {
+        rows.push((version, key, Some(number)))?;
+        return apply(store, version, set(alloc, &[key], &[number])?, alloc);
+    }
+    if kind == 1 {
+        for cleared in b'a'..key {
+            rows.push((version, cleared, None))?;
+        }
+        return apply(store, version, clear(alloc, b"a", &[key])?, alloc);
+    }
+    if kind == 2 {
+        rows.retain(|row| row.0 != version);
+        return retract(store);
+    }
+    store.forget(version);
+    Ok(())
+}
+
+/// Whether both have the same at a key and a version.
+fn agree_at(store: &Store, rows: &[Left], key: u8, version: u64) -> bool {
+    let held = at(store, &[key], version);
+    match in_list(rows, key, version) {
+        None => held.is_none(),
+        Some(value) => held == Some(&[value]),
+    }
+}
+
+/// Whether they have the same at each of the keys `a` to `d`, at each version that isn't forgotten.
+fn agree(store: &Store, rows: &[Left]) -> bool {
+    for version in store.oldest()..10 {
+        for key in b'a'..b'e' {
+            if !agree_at(store, rows, key, version) {
+                return false;
+            }
+        }
+    }
+    true
+}
+
+#[test]
+fn short_sequences_leave_what_a_plain_list_has(rt: HostRuntime) -> Result<(), Fail> {
+    let sequences: [[Change; 5]; 4] = [
+        [
+            (0, 1, b'a'),
+            (0, 2, b'b'),
+            (1, 3, b'c'),
+            (0, 4, b'a'),
+            (3, 2, 0),
+        ],
+        [
+            (0, 1, b'b'),
+            (1, 2, b'c'),
+            (2, 2, 0),
+            (0, 3, b'b'),
+            (3, 3, 0),
+        ],
+        [
+            (0, 1, b'a'),
+            (0, 2, b'a'),
+            (0, 3, b'a'),
+            (3, 2, 0),
+            (2, 3, 0),
+        ],
+        [
+            (1, 1, b'd'),
+            (0, 2, b'c'),
+            (3, 1, 0),
+            (1, 3, b'e'),
+            (0, 5, b'c'),
+        ],
+    ];
+    for changes in sequences {
+        let mut store = Store::new(rt.alloc(), 4);
+        let mut rows = Vec::new(rt.alloc());
+        for change in changes {
+            make(rt.alloc(), &mut store, &mut rows, change)?;
+            assert!(rt; agree(&store, &rows));
+        }
+    }
+    Ok(())
+}
