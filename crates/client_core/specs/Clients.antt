@@ -7,6 +7,7 @@ use Rattle.mutations.specs.declared.Who.TheVariants as who
 use Rattle.mutations.specs.declared.TxOp.{TxOp}
 use Rattle.mutations.specs.Transactions.{writes_of}
 use Rattle.workload_text.specs.declared.ClientScript.{ClientScript}
+use Rattle.database.specs.declared.JobLog.{JobLog}
 use Rattle.database.specs.Commits.{commit_answer, history_after, time_after}
 use Rattle.client_core.specs.declared.outcome.Outcome.{Outcome}
 use Rattle.client_core.specs.Ends.{end_of, version_of}
@@ -60,10 +61,10 @@ try_with time history client ops outcome = record {
   time = time_after (version_of outcome.end) time;
 }
 
--- the try to commit these operations, by the block, the newest version and the pace
-abbrev pub try_of : ℕ → ℕ → ℕ → List Entry → ClientState → ℕ → List TxOp → Try
-try_of block time pace history client read ops = try_with time history client ops (record { place = client.place + 1; attempt = 1; read = read; end = end_of (commit_answer block time pace ops) })
+-- the try to commit these operations, by the block, the newest version, the pace and the logs of jobs
+abbrev pub try_of : ℕ → ℕ → ℕ → List JobLog → List Entry → ClientState → ℕ → List TxOp → Try
+try_of block time pace logs history client read ops = try_with time history client ops (record { place = client.place + 1; attempt = 1; read = read; end = end_of (commit_answer block time pace logs ops) })
 
 -- a try of the transaction that is begun, if one is
-abbrev pub commit_try : ℕ → ℕ → ℕ → List Entry → ClientState → Option Try
-commit_try block time pace history client = client.begun >>= λ read. next_ops client >>= λ ops. Some (try_of block time pace history client read ops)
+abbrev pub commit_try : ℕ → ℕ → ℕ → List JobLog → List Entry → ClientState → Option Try
+commit_try block time pace logs history client = client.begun >>= λ read. next_ops client >>= λ ops. Some (try_of block time pace logs history client read ops)

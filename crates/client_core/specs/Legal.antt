@@ -1,5 +1,5 @@
 -- What a history owes to a client, and its outcomes to its script.
-use Rattle.std.specs.Prelude.{◌≡◌, ℕ, ◌+◌, Bool, true, false, List, [], ◌∷◌, ◌++◌, Option, Some, None, slice_get, if◌then◌else◌, nat_eq}
+use Rattle.std.specs.Prelude.{◌≡◌, ℕ, ◌+◌, Bool, false, List, [], ◌∷◌, ◌++◌, Option, Some, None, if◌then◌else◌, nat_eq}
 use Rattle.mutations.specs.declared.Entry.{Entry}
 use Rattle.mutations.specs.declared.Who.{Who}
 use Rattle.mutations.specs.declared.Who.TheVariants as who

@@ -1,4 +1,6 @@
-ghost use Rattle.std.specs.Prelude.{◌≡◌, Some, None, MatchOption, IfOk, OnOk, OnErr};
+ghost use Rattle.std.specs.Prelude.{◌≡◌, ◌≤◌, Some, None, MatchOption, IfOk, OnOk, OnErr};
+ghost use Rattle.std.specs.List.{AllByRecursion};
+ghost use Rattle.mutations.specs.declared.Entry.{Entry};
 ghost use Rattle.mutations.specs.Transactions.{writes_of};
 ghost use Rattle.database.specs.Commits.{commit_answer, history_after, time_after};
 ghost use Rattle.client_core.specs.Ends.{end_of, version_of};
@@ -96,12 +98,14 @@ impl Client {
         db: &mut Db,
         versions: &mut Versions,
     ) -> Result<Option<Outcome>, AllocError>
+        requires pace { 1 ≤ versions.old.pace }
+        requires past { AllByRecursion (λ (entry : Entry). entry.version ≤ versions.old.now) db.old.history }
         ensures ok { IfOk result (λ outcome. MatchOption outcome
-            ((commit_try db.old.block versions.old.now versions.old.pace db.old.history self.old ≡ None)
+            ((commit_try db.old.block versions.old.now versions.old.pace db.old.logs db.old.history self.old ≡ None)
             × (self.new ≡ self.old) × (db.new ≡ db.old) × (versions.new ≡ versions.old))
-            (λ outcome. commit_try db.old.block versions.old.now versions.old.pace db.old.history self.old
+            (λ outcome. commit_try db.old.block versions.old.now versions.old.pace db.old.logs db.old.history self.old
             ≡ Some (record { outcome = outcome; client = self.new; history = db.new.history; time = versions.new.now }))) }
-        ensures same { IfOk result (λ _. (db.new.block ≡ db.old.block) × (versions.new.pace ≡ versions.old.pace)) }
+        ensures same { IfOk result (λ _. (db.new.block ≡ db.old.block) × (db.new.logs ≡ db.old.logs) × (versions.new.pace ≡ versions.old.pace)) }
         ensures err { OnErr result ((self.new ≡ self.old) × (db.new ≡ db.old) × (versions.new ≡ versions.old)) }
     {
         let Some(read) = self.begun else {
@@ -135,7 +139,7 @@ impl Client {
 
 // How a try will end, while nothing has changed yet.
 fn end_of_try(db: &Db, versions: &Versions, tx: &Tx) -> Result<End, AllocError>
-    ensures { IfOk result (λ end. end ≡ end_of (commit_answer db.now.block versions.entry.now.now versions.entry.now.pace tx.now.ops.now)) }
+    ensures { IfOk result (λ end. end ≡ end_of (commit_answer db.now.block versions.entry.now.now versions.entry.now.pace db.now.logs tx.now.ops.now)) }
 {
     match db.check(versions, tx) {
         Ok(Committed { version: None }) => Ok(End::ReadOnly),
@@ -151,8 +155,10 @@ fn end_of_try(db: &Db, versions: &Versions, tx: &Tx) -> Result<End, AllocError>
 
 // Makes the entry of a try, where it is to have one.
 fn make_entry(db: &mut Db, versions: &mut Versions, tx: &Tx) -> Result<(), AllocError>
-    ensures entry { OnOk result (db.new ≡ record db.old { history = history_after (version_of (end_of (commit_answer db.old.block versions.old.now versions.old.pace tx.now.ops.now))) tx.now.who (writes_of tx.now.ops.now) db.old.history }) }
-    ensures time { OnOk result (versions.new ≡ record versions.old { now = time_after (version_of (end_of (commit_answer db.old.block versions.old.now versions.old.pace tx.now.ops.now))) versions.old.now }) }
+    requires pace { 1 ≤ versions.old.pace }
+    requires past { AllByRecursion (λ (entry : Entry). entry.version ≤ versions.old.now) db.old.history }
+    ensures entry { OnOk result (db.new ≡ record db.old { history = history_after (version_of (end_of (commit_answer db.old.block versions.old.now versions.old.pace db.old.logs tx.now.ops.now))) tx.now.who (writes_of tx.now.ops.now) db.old.history }) }
+    ensures time { OnOk result (versions.new ≡ record versions.old { now = time_after (version_of (end_of (commit_answer db.old.block versions.old.now versions.old.pace db.old.logs tx.now.ops.now))) versions.old.now }) }
     ensures err { OnErr result ((db.new ≡ db.old) × (versions.new ≡ versions.old)) }
 {
     match db.commit(versions, tx) {

@@ -1,6 +1,21 @@
-pub mod Lists
-pub mod Entries
-pub mod Answered
-pub mod Steps
-pub mod Openings
-pub mod Worlds
+mod Lists
+mod Entries
+mod Answered
+mod All
+mod Known
+mod Named
+mod Grown
+mod Puts
+mod Files
+mod Seals
+mod Changes
+mod Frames
+mod Orders
+mod Opens
+mod Steps
+mod Openings
+mod Relied
+mod Worlds
+mod Carried
+mod Planned
+mod Cuts

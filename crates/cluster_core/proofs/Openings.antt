@@ -9,6 +9,8 @@ use Rattle.workload_text.specs.declared.Side.TheVariants.{Src, Dst}
 use Rattle.workload_text.specs.Scripts.{are_numbered}
 use Rattle.client_core.specs.Clients.{ClientState, new_client}
 use Rattle.client_core.specs.Legal.{entries_by}
+use Rattle.database.specs.Dumps.{AreWithin}
+use Rattle.cluster_core.specs.Jobs.{Job}
 use Rattle.cluster_core.specs.State.{on_side, client_at}
 use Rattle.cluster_core.specs.Sound.{IsOrdered, other_side, IsClientSound}
 use Rattle.cluster_core.specs.Laws.{OpeningLaw}
@@ -50,10 +52,23 @@ each_new workload (suc k) client e =
     let new : IsNew (1 + k) client = new_at 1 workload.clients k client workload.numbered e in
     subst (IsClientSound [] [] (suc k)) (sym new.fresh) (new_sound (suc k) client.script (new.numbered ∙ omega arith))
 
+within_none : (block : ℕ) (side : Side) → AreWithin block (on_side side [] [])
+within_none block Src = tt
+within_none block Dst = tt
+
+no_job : {P : Type 0} (place : ℕ) (job : Job) → slice_get [] place ≡ Some job → P
+no_job zero job e = cc
+no_job (suc n) job e = cc
+
 pub opening_is_sound : OpeningLaw
-opening_is_sound workload files = record {
+opening_is_sound workload files ordered = record {
   bound = omega arith;
   histories = ordered_none;
+  within = within_none workload.settings.block;
   scripts_are = scripts_new workload.clients;
   clients = each_new workload;
+  tickets = omega arith;
+  jobs = λ place job e. no_job place job e;
+  apart = λ a b first second e f s. no_job a first e;
+  stored = λ told e. record { ordered = ordered told e; each = λ place job f. no_job place job f };
 }

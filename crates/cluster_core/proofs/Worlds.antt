@@ -6,9 +6,10 @@ use Rattle.std.proofs.lemmas.List.{set-get_or}
 use Rattle.std.proofs.lemmas.Option.{slice_get-get_or}
 use Rattle.fb_bytes.specs.Options.{◌>>=◌}
 use Rattle.fb_outside.specs.declared.File.{File}
+use Rattle.fb_outside.specs.Files.{AreFiles}
 use Rattle.versioned_kv.specs.declared.Versions.{Versions}
-use Rattle.workload_text.specs.declared.ClientScript.{ClientScript}
 use Rattle.workload_text.specs.declared.Settings.{Settings}
+use Rattle.workload_text.specs.declared.Side.TheVariants.{Src, Dst}
 use Rattle.workload_text.specs.declared.Workload.{Workload}
 use Rattle.database.specs.Commits.{Database}
 use Rattle.client_core.specs.declared.Outcome.{Outcome}
@@ -17,10 +18,13 @@ use Rattle.cluster_core.specs.declared.event.Event.TheVariants.{Commit}
 use Rattle.cluster_core.specs.declared.event.Answer.{Answer}
 use Rattle.cluster_core.specs.declared.event.StepFault.{StepFault}
 use Rattle.cluster_core.specs.State.{State, client_at, put_client}
-use Rattle.cluster_core.specs.Step.{begin_with, commit, Moved, moved}
+use Rattle.cluster_core.specs.Jobs.{Job, logs_of}
+use Rattle.cluster_core.specs.Moves.{FailsOld, Moved, moved}
+use Rattle.cluster_core.specs.Step.{begin_with, commit}
 use Rattle.cluster_core.specs.Sound.{Sound}
-use Rattle.cluster_core.specs.World.{state_of, IsWorld, begun_in, tried_in}
+use Rattle.cluster_core.specs.World.{Desk, state_of, IsWorld, begun_in, tried_in}
 use Rattle.cluster_core.proofs.Openings.{opening_is_sound}
+use Rattle.cluster_core.proofs.Relied.{known}
 use Rattle.cluster_core.proofs.Steps.{begin_of_keeps, event_keeps}
 
 -- ---- a client of a slice
@@ -44,14 +48,14 @@ ClientTried tried old client db db' v v' result = IfOk result (λ o. MatchOption
 abbrev pub Tried : List ClientState → List ClientState → ℕ → Database → Database → Versions → Versions → Option Outcome → Type 0
 Tried clients clients' number db db' v v' o = MatchOption o ((tried_in clients number db v ≡ None) × (clients' ≡ clients) × (db' ≡ db) × (v' ≡ v)) (λ outcome. (x : ClientState) × (tried_in clients number db v ≡ Some (record { outcome = outcome; client = x; history = db'.history; time = v'.now })) × (clients' ≡ put_client clients number x))
 
-pub tries_at : (clients : List ClientState) (k : ℕ) (old client : ClientState) (db db' : Database) (v v' : Versions) (result : Result (Option Outcome) AllocError) → k < length clients → ClientTried (commit_try db.block v.now v.pace db.history (get_or clients k old)) (get_or clients k old) client db db' v v' result → IfOk result (Tried clients (slice_set clients k client) (suc k) db db' v v')
+pub tries_at : (clients : List ClientState) (k : ℕ) (old client : ClientState) (db db' : Database) (v v' : Versions) (result : Result (Option Outcome) AllocError) → k < length clients → ClientTried (commit_try db.block v.now v.pace db.logs db.history (get_or clients k old)) (get_or clients k old) client db db' v v' result → IfOk result (Tried clients (slice_set clients k client) (suc k) db db' v v')
 tries_at clients k old client db db' v v' (Ok None) lt h =
-    (ap (λ (o : Option ClientState). o >>= commit_try db.block v.now v.pace db.history) (slice_get-get_or clients k old lt) ∙ h.0, ap (slice_set clients k) h.1 ∙ set-get_or clients k old, h.2, h.3)
+    (ap (λ (o : Option ClientState). o >>= commit_try db.block v.now v.pace db.logs db.history) (slice_get-get_or clients k old lt) ∙ h.0, ap (slice_set clients k) h.1 ∙ set-get_or clients k old, h.2, h.3)
 tries_at clients k old client db db' v v' (Ok (Some outcome)) lt h =
-    (client, ap (λ (o : Option ClientState). o >>= commit_try db.block v.now v.pace db.history) (slice_get-get_or clients k old lt) ∙ h, refl)
+    (client, ap (λ (o : Option ClientState). o >>= commit_try db.block v.now v.pace db.logs db.history) (slice_get-get_or clients k old lt) ∙ h, refl)
 tries_at clients k old client db db' v v' (Err e) lt h = tt
 
-pub tries : (clients : List ClientState) (number : ℕ) (old client : ClientState) (db db' : Database) (v v' : Versions) (result : Result (Option Outcome) AllocError) → (number ≡ 0 → ⊥) → number - 1 < length clients → ClientTried (commit_try db.block v.now v.pace db.history (get_or clients (number - 1) old)) (get_or clients (number - 1) old) client db db' v v' result → IfOk result (Tried clients (slice_set clients (number - 1) client) number db db' v v')
+pub tries : (clients : List ClientState) (number : ℕ) (old client : ClientState) (db db' : Database) (v v' : Versions) (result : Result (Option Outcome) AllocError) → (number ≡ 0 → ⊥) → number - 1 < length clients → ClientTried (commit_try db.block v.now v.pace db.logs db.history (get_or clients (number - 1) old)) (get_or clients (number - 1) old) client db db' v v' result → IfOk result (Tried clients (slice_set clients (number - 1) client) number db db' v v')
 tries clients number old client db db' v v' result some lt h =
     let e : suc (number - 1) ≡ number = omega arith in
     subst (λ (n : ℕ). IfOk result (Tried clients (slice_set clients (number - 1) client) n db db' v v')) e (tries_at clients (number - 1) old client db db' v v' result lt h)
@@ -68,47 +72,67 @@ written_back {X = X} n new sliced items s e l =
     let k : n ≡ length new = e ∙ ap length (sym s) ∙ sym l in
     ap (λ (m : ℕ). take m (new ++ drop (length new) items)) k ∙ front new (drop (length new) items)
 
-begun_sound : (scripts : List ClientScript) (w : State) (number : ℕ) (x : ClientState) → Sound scripts w → begun_in w.clients number w.time ≡ Some x → Sound scripts (record w { clients = put_client w.clients number x })
-begun_sound scripts w number x h e = subst (λ (o : Option ClientState). Sound scripts (begin_with w number o).state) e (begin_of_keeps scripts w number (client_at w.clients number) refl h)
+begun_sound : (p : Workload) (w : State) (number : ℕ) (x : ClientState) → Sound p w → begun_in w.clients number w.time ≡ Some x → Sound p (record w { clients = put_client w.clients number x })
+begun_sound p w number x h e = subst (λ (o : Option ClientState). Sound p (begin_with w number o).state) e (begin_of_keeps p w number (client_at w.clients number) refl h)
 
-begun_world : (workload : Workload) (src dst : Database) (v : Versions) (files : Option (List File)) (clients new : List ClientState) (number : ℕ) (result : Option ℕ) → IsWorld workload src dst v (state_of clients src dst v files) → MatchOption result ((begun_in clients number v.now ≡ None) × (new ≡ clients)) (λ read. (read ≡ v.now) × ((x : ClientState) × (begun_in clients number v.now ≡ Some x) × (new ≡ put_client clients number x))) → IsWorld workload src dst v (state_of new src dst v files)
-begun_world workload src dst v files clients new number None h k = subst (λ (cs : List ClientState). IsWorld workload src dst v (state_of cs src dst v files)) (sym k.1) h
-begun_world workload src dst v files clients new number (Some read) h k =
+begun_world : (workload : Workload) (src dst : Database) (v : Versions) (desk : Desk) (files : Option (List File)) (clients new : List ClientState) (number : ℕ) (result : Option ℕ) → IsWorld workload src dst v (state_of clients src dst v desk files) → MatchOption result ((begun_in clients number v.now ≡ None) × (new ≡ clients)) (λ read. (read ≡ v.now) × ((x : ClientState) × (begun_in clients number v.now ≡ Some x) × (new ≡ put_client clients number x))) → IsWorld workload src dst v (state_of new src dst v desk files)
+begun_world workload src dst v desk files clients new number None h k = subst (λ (cs : List ClientState). IsWorld workload src dst v (state_of cs src dst v desk files)) (sym k.1) h
+begun_world workload src dst v desk files clients new number (Some read) h k =
     let x : ClientState = k.1.0 in
-    let sound : Sound workload.clients (record (state_of clients src dst v files) { clients = put_client clients number x }) = begun_sound workload.clients (state_of clients src dst v files) number x h.sound k.1.1 in
-    record { src_block = h.src_block; dst_block = h.dst_block; pace = h.pace; sound = subst (λ (cs : List ClientState). Sound workload.clients (state_of cs src dst v files)) (sym k.1.2) sound }
+    let sound : Sound workload (record (state_of clients src dst v desk files) { clients = put_client clients number x }) = begun_sound workload (state_of clients src dst v desk files) number x h.sound k.1.1 in
+    record { src_block = h.src_block; dst_block = h.dst_block; pace = h.pace; src_logs = h.src_logs; dst_logs = h.dst_logs; sound = subst (λ (cs : List ClientState). Sound workload (state_of cs src dst v desk files)) (sym k.1.2) sound }
 
 -- a begin leaves a world
-pub begin_world : (workload : Workload) (src dst : Database) (v : Versions) (files : Option (List File)) (items sliced new : List ClientState) (n number : ℕ) (result : Option ℕ) → IsWorld workload src dst v (state_of items src dst v files) → sliced ≡ items → n ≡ length items → length new ≡ length sliced → MatchOption result ((begun_in sliced number v.now ≡ None) × (new ≡ sliced)) (λ read. (read ≡ v.now) × ((x : ClientState) × (begun_in sliced number v.now ≡ Some x) × (new ≡ put_client sliced number x))) → IsWorld workload src dst v (state_of (take n (new ++ drop (length new) items)) src dst v files)
-begin_world workload src dst v files items sliced new n number result h s e l k =
-    subst (λ (cs : List ClientState). IsWorld workload src dst v (state_of cs src dst v files)) (sym (written_back n new sliced items s e l))
-    (begun_world workload src dst v files sliced new number result (subst (λ (cs : List ClientState). IsWorld workload src dst v (state_of cs src dst v files)) (sym s) h) k)
+pub begin_world : (workload : Workload) (src dst : Database) (v : Versions) (desk : Desk) (files : Option (List File)) (items sliced new : List ClientState) (n number : ℕ) (result : Option ℕ) → IsWorld workload src dst v (state_of items src dst v desk files) → sliced ≡ items → n ≡ length items → length new ≡ length sliced → MatchOption result ((begun_in sliced number v.now ≡ None) × (new ≡ sliced)) (λ read. (read ≡ v.now) × ((x : ClientState) × (begun_in sliced number v.now ≡ Some x) × (new ≡ put_client sliced number x))) → IsWorld workload src dst v (state_of (take n (new ++ drop (length new) items)) src dst v desk files)
+begin_world workload src dst v desk files items sliced new n number result h s e l k =
+    subst (λ (cs : List ClientState). IsWorld workload src dst v (state_of cs src dst v desk files)) (sym (written_back n new sliced items s e l))
+    (begun_world workload src dst v desk files sliced new number result (subst (λ (cs : List ClientState). IsWorld workload src dst v (state_of cs src dst v desk files)) (sym s) h) k)
 
--- and so does a commit
-pub commit_world : (workload : Workload) (src dst src' dst' : Database) (v v' : Versions) (files : Option (List File)) (items sliced new : List ClientState) (n number : ℕ) (answer : Answer) → IsWorld workload src dst v (state_of items src dst v files) → sliced ≡ items → n ≡ length items → length new ≡ length sliced → src'.block ≡ src.block → dst'.block ≡ dst.block → v'.pace ≡ v.pace → ((s : Settings) (files : Option (List File)) → src.block ≡ s.block → dst.block ≡ s.block → v.pace ≡ s.pace → commit s (state_of sliced src dst v files) number ≡ moved (Ok answer) (state_of new src' dst' v' files)) → IsWorld workload src' dst' v' (state_of (take n (new ++ drop (length new) items)) src' dst' v' files)
-commit_world workload src dst src' dst' v v' files items sliced new n number answer h s e l b d p k =
-    let start : IsWorld workload src dst v (state_of sliced src dst v files) = subst (λ (cs : List ClientState). IsWorld workload src dst v (state_of cs src dst v files)) (sym s) h in
-    let moves : commit workload.settings (state_of sliced src dst v files) number ≡ moved (Ok answer) (state_of new src' dst' v' files) = k workload.settings files h.src_block h.dst_block h.pace in
-    let sound : Sound workload.clients (state_of new src' dst' v' files) = subst (Sound workload.clients) (ap (λ (m : Moved). m.state) moves) (event_keeps workload.settings workload.clients (state_of sliced src dst v files) (Commit number) start.sound) in
-    subst (λ (cs : List ClientState). IsWorld workload src' dst' v' (state_of cs src' dst' v' files)) (sym (written_back n new sliced items s e l))
-    (record { src_block = b ∙ h.src_block; dst_block = d ∙ h.dst_block; pace = p ∙ h.pace; sound = sound })
+-- what is said of a commit
+abbrev pub Commits : Database → Database → Versions → List ClientState → Database → Database → Versions → List ClientState → ℕ → Answer → Type 0
+Commits src dst v old src' dst' v' new number answer = (s : Settings) (desk : Desk) (files : Option (List File)) → src.block ≡ s.block → dst.block ≡ s.block → v.pace ≡ s.pace → src.logs ≡ logs_of Src desk.jobs → dst.logs ≡ logs_of Dst desk.jobs → commit s (state_of old src dst v desk files) number ≡ moved (Ok answer) (state_of new src' dst' v' desk files)
+
+-- a commit leaves a world too
+commit_world : (workload : Workload) (src dst src' dst' : Database) (v v' : Versions) (desk : Desk) (files : Option (List File)) (items sliced new : List ClientState) (n number : ℕ) (answer : Answer) → IsWorld workload src dst v (state_of items src dst v desk files) → sliced ≡ items → n ≡ length items → length new ≡ length sliced → (src'.block ≡ src.block) × (dst'.block ≡ dst.block) → (src'.logs ≡ src.logs) × (dst'.logs ≡ dst.logs) → v'.pace ≡ v.pace → Commits src dst v sliced src' dst' v' new number answer → IsWorld workload src' dst' v' (state_of (take n (new ++ drop (length new) items)) src' dst' v' desk files)
+commit_world workload src dst src' dst' v v' desk files items sliced new n number answer h s e l b g p k =
+    let start : IsWorld workload src dst v (state_of sliced src dst v desk files) = subst (λ (cs : List ClientState). IsWorld workload src dst v (state_of cs src dst v desk files)) (sym s) h in
+    let moves : commit workload.settings (state_of sliced src dst v desk files) number ≡ moved (Ok answer) (state_of new src' dst' v' desk files) = k workload.settings desk files h.src_block h.dst_block h.pace h.src_logs h.dst_logs in
+    let sound : Sound workload (state_of new src' dst' v' desk files) = subst (Sound workload) (ap (λ (m : Moved). m.state) moves) (event_keeps known workload (state_of sliced src dst v desk files) FailsOld (Commit number) start.sound) in
+    subst (λ (cs : List ClientState). IsWorld workload src' dst' v' (state_of cs src' dst' v' desk files)) (sym (written_back n new sliced items s e l))
+    (record { src_block = b.0 ∙ h.src_block; dst_block = b.1 ∙ h.dst_block; pace = p ∙ h.pace; src_logs = g.0 ∙ h.src_logs; dst_logs = g.1 ∙ h.dst_logs; sound = sound })
 
 -- whatever a commit answers
-pub commit_leaves_world : (workload : Workload) (src dst src' dst' : Database) (v v' : Versions) (files : Option (List File)) (items sliced new : List ClientState) (n number : ℕ) (result : Result Answer StepFault) → IsWorld workload src dst v (state_of items src dst v files) → sliced ≡ items → n ≡ length items → length new ≡ length sliced → (src'.block ≡ src.block) × (dst'.block ≡ dst.block) → v'.pace ≡ v.pace → IfOk result (λ answer. (s : Settings) (files : Option (List File)) → src.block ≡ s.block → dst.block ≡ s.block → v.pace ≡ s.pace → commit s (state_of sliced src dst v files) number ≡ moved (Ok answer) (state_of new src' dst' v' files)) → OnErr result ((new ≡ sliced) × (src' ≡ src) × (dst' ≡ dst) × (v' ≡ v)) → IsWorld workload src' dst' v' (state_of (take n (new ++ drop (length new) items)) src' dst' v' files)
-commit_leaves_world workload src dst src' dst' v v' files items sliced new n number (Ok answer) h s e l b p k f = commit_world workload src dst src' dst' v v' files items sliced new n number answer h s e l b.0 b.1 p k
-commit_leaves_world workload src dst src' dst' v v' files items sliced new n number (Err fault) h s e l b p k f =
+pub commit_leaves_world : (workload : Workload) (src dst src' dst' : Database) (v v' : Versions) (desk : Desk) (files : Option (List File)) (items sliced new : List ClientState) (n number : ℕ) (result : Result Answer StepFault) → IsWorld workload src dst v (state_of items src dst v desk files) → sliced ≡ items → n ≡ length items → length new ≡ length sliced → (src'.block ≡ src.block) × (dst'.block ≡ dst.block) → (src'.logs ≡ src.logs) × (dst'.logs ≡ dst.logs) → v'.pace ≡ v.pace → IfOk result (Commits src dst v sliced src' dst' v' new number) → OnErr result ((new ≡ sliced) × (src' ≡ src) × (dst' ≡ dst) × (v' ≡ v)) → IsWorld workload src' dst' v' (state_of (take n (new ++ drop (length new) items)) src' dst' v' desk files)
+commit_leaves_world workload src dst src' dst' v v' desk files items sliced new n number (Ok answer) h s e l b g p k f = commit_world workload src dst src' dst' v v' desk files items sliced new n number answer h s e l b g p k
+commit_leaves_world workload src dst src' dst' v v' desk files items sliced new n number (Err fault) h s e l b g p k f =
     let same : new ≡ items = f.0 ∙ s in
-    subst (λ (cs : List ClientState). IsWorld workload src' dst' v' (state_of cs src' dst' v' files)) (sym same ∙ sym (written_back n new sliced items s e l) ∙ refl)
-    (let P : Database → Database → Versions → Type 0 = λ x y z. IsWorld workload x y z (state_of items x y z files) in
+    subst (λ (cs : List ClientState). IsWorld workload src' dst' v' (state_of cs src' dst' v' desk files)) (sym same ∙ sym (written_back n new sliced items s e l) ∙ refl)
+    (let P : Database → Database → Versions → Type 0 = λ x y z. IsWorld workload x y z (state_of items x y z desk files) in
     subst (λ (z : Versions). P src' dst' z) (sym f.3) (subst (λ (y : Database). P src' y v) (sym f.2) (subst (λ (x : Database). P x dst v) (sym f.1) h)))
 
 -- new parts are a world at its beginning
-pub open_world : (workload original : Workload) (clients : List ClientState) (src dst : Database) (block : ℕ) (files : Option (List File)) → workload ≡ original → clients ≡ map new_client original.clients → src ≡ record { block = block; history = [] } → dst ≡ record { block = block; history = [] } → block ≡ original.settings.block → IsWorld workload src dst (record { now = 0; pace = workload.settings.pace }) (state_of clients src dst (record { now = 0; pace = workload.settings.pace }) files)
-open_world workload original clients src dst block files w c s d b =
-    let empty : Database = record { block = block; history = [] } in
+pub open_world : (workload original : Workload) (clients : List ClientState) (jobs : List Job) (src dst : Database) (block : ℕ) (files : Option (List File)) → ((told : List File) → files ≡ Some told → AreFiles told) → workload ≡ original → clients ≡ map new_client original.clients → jobs ≡ [] → src ≡ record { block = block; history = []; logs = [] } → dst ≡ record { block = block; history = []; logs = [] } → block ≡ original.settings.block → IsWorld workload src dst (record { now = 0; pace = workload.settings.pace }) (state_of clients src dst (record { now = 0; pace = workload.settings.pace }) (record { jobs = jobs; place = 0; tickets = 1 }) files)
+open_world workload original clients jobs src dst block files ordered w c j s d b =
+    let empty : Database = record { block = block; history = []; logs = [] } in
     let start : Workload → Versions = λ x. record { now = 0; pace = x.settings.pace } in
-    let base : IsWorld original empty empty (start original) (state_of (map new_client original.clients) empty empty (start original) files) = record { src_block = b; dst_block = b; pace = refl; sound = opening_is_sound original files } in
-    subst (λ (x : Workload). IsWorld x src dst (start x) (state_of clients src dst (start x) files)) (sym w)
-    (subst (λ (cs : List ClientState). IsWorld original src dst (start original) (state_of cs src dst (start original) files)) (sym c)
-    (subst (λ (x : Database). IsWorld original x dst (start original) (state_of (map new_client original.clients) x dst (start original) files)) (sym s)
-    (subst (λ (x : Database). IsWorld original empty x (start original) (state_of (map new_client original.clients) empty x (start original) files)) (sym d) base)))
+    let desk : List Job → Desk = λ js. record { jobs = js; place = 0; tickets = 1 } in
+    let base : IsWorld original empty empty (start original) (state_of (map new_client original.clients) empty empty (start original) (desk []) files) = record { src_block = b; dst_block = b; pace = refl; src_logs = refl; dst_logs = refl; sound = opening_is_sound original files ordered } in
+    subst (λ (x : Workload). IsWorld x src dst (start x) (state_of clients src dst (start x) (desk jobs) files)) (sym w)
+    (subst (λ (cs : List ClientState). IsWorld original src dst (start original) (state_of cs src dst (start original) (desk jobs) files)) (sym c)
+    (subst (λ (js : List Job). IsWorld original src dst (start original) (state_of (map new_client original.clients) src dst (start original) (desk js) files)) (sym j)
+    (subst (λ (x : Database). IsWorld original x dst (start original) (state_of (map new_client original.clients) x dst (start original) (desk []) files)) (sym s)
+    (subst (λ (x : Database). IsWorld original empty x (start original) (state_of (map new_client original.clients) empty x (start original) (desk []) files)) (sym d) base))))
+
+-- and it makes its step
+pub commit_done : (workload : Workload) (src dst src' dst' : Database) (v v' : Versions) (desk : Desk) (files : Option (List File)) (items sliced new : List ClientState) (n number : ℕ) (answer : Answer) → IsWorld workload src dst v (state_of items src dst v desk files) → sliced ≡ items → n ≡ length items → length new ≡ length sliced → Commits src dst v sliced src' dst' v' new number answer → commit workload.settings (state_of items src dst v desk files) number ≡ moved (Ok answer) (state_of (take n (new ++ drop (length new) items)) src' dst' v' desk files)
+commit_done workload src dst src' dst' v v' desk files items sliced new n number answer h s e l k =
+    subst (λ (cs : List ClientState). commit workload.settings (state_of items src dst v desk files) number ≡ moved (Ok answer) (state_of cs src' dst' v' desk files)) (sym (written_back n new sliced items s e l))
+    (subst (λ (cs : List ClientState). commit workload.settings (state_of cs src dst v desk files) number ≡ moved (Ok answer) (state_of new src' dst' v' desk files)) s (k workload.settings desk files h.src_block h.dst_block h.pace h.src_logs h.dst_logs))
+
+-- a refused one changes nothing
+pub commit_refused : (src dst src' dst' : Database) (v v' : Versions) (desk : Desk) (files : Option (List File)) (items sliced new : List ClientState) (n : ℕ) → sliced ≡ items → n ≡ length items → length new ≡ length sliced → (new ≡ sliced) × (src' ≡ src) × (dst' ≡ dst) × (v' ≡ v) → state_of (take n (new ++ drop (length new) items)) src' dst' v' desk files ≡ state_of items src dst v desk files
+commit_refused src dst src' dst' v v' desk files items sliced new n s e l f =
+    ap (λ (cs : List ClientState). state_of cs src' dst' v' desk files) (written_back n new sliced items s e l ∙ f.0 ∙ s)
+    ∙ ap (λ (x : Database). state_of items x dst' v' desk files) f.1
+    ∙ ap (λ (x : Database). state_of items src x v' desk files) f.2
+    ∙ ap (λ (x : Versions). state_of items src dst x desk files) f.3

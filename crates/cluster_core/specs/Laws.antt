@@ -1,24 +1,30 @@
 -- What is proved of the machine.
-use Rattle.std.specs.Prelude.{List, Option, Result}
+use Rattle.std.specs.Prelude.{◌≡◌, ℕ, List, Option, Some, Result, slice_get}
 use Rattle.fb_outside.specs.declared.File.{File}
-use Rattle.workload_text.specs.declared.ClientScript.{ClientScript}
-use Rattle.workload_text.specs.declared.Settings.{Settings}
+use Rattle.fb_outside.specs.Files.{AreFiles}
+use Rattle.container_view.specs.Contents.{file_grammars}
+use Rattle.container_view.specs.Honest.{IsFaithfulStore}
 use Rattle.workload_text.specs.declared.Workload.{Workload}
 use Rattle.cluster_core.specs.declared.event.Event.{Event}
 use Rattle.cluster_core.specs.declared.event.Answer.{Answer}
 use Rattle.cluster_core.specs.declared.event.StepFault.{StepFault}
-use Rattle.cluster_core.specs.State.{State, opening}
+use Rattle.cluster_core.specs.Jobs.{Job}
+use Rattle.cluster_core.specs.State.{State, history_on, opening}
 use Rattle.cluster_core.specs.Step.{Step, Turn, Run}
-use Rattle.cluster_core.specs.Sound.{Sound}
+use Rattle.cluster_core.specs.Sound.{Sound, source_of}
 
 -- The opening state of each workload is sound, whatever files there are.
 abbrev pub OpeningLaw : Type 0
-OpeningLaw = (workload : Workload) (files : Option (List File)) → Sound workload.clients (opening workload files)
+OpeningLaw = (workload : Workload) (files : Option (List File)) → ((told : List File) → files ≡ Some told → AreFiles told) → Sound workload (opening workload files)
 
 -- Each step keeps it, refused or not.
 abbrev pub StepLaw : Type 0
-StepLaw = (s : Settings) (scripts : List ClientScript) (old new : State) (event : Event) (answer : Result Answer StepFault) → Step s old event answer new → Sound scripts old → Sound scripts new
+StepLaw = (workload : Workload) (old new : State) (event : Event) (answer : Result Answer StepFault) → Step workload old event answer new → Sound workload old → Sound workload new
 
 -- So every run keeps it.
 abbrev pub RunLaw : Type 0
-RunLaw = (s : Settings) (scripts : List ClientScript) (old new : State) (turns : List Turn) → Run s old turns new → Sound scripts old → Sound scripts new
+RunLaw = (workload : Workload) (old new : State) (turns : List Turn) → Run workload old turns new → Sound workload old → Sound workload new
+
+-- In a sound state the container of each job is faithful to the history of its database, cut to the job's ranges.
+abbrev pub FaithfulLaw : Type 0
+FaithfulLaw = (workload : Workload) (w : State) (files : List File) → Sound workload w → w.files ≡ Some files → (place : ℕ) (job : Job) → slice_get w.jobs place ≡ Some job → IsFaithfulStore file_grammars (source_of workload.settings.block w.time (history_on job.side w) job) job.container files

@@ -1,5 +1,9 @@
+pub mod Jobs
 pub mod State
+pub mod Moves
+pub mod Commands
 pub mod Step
+pub mod Plans
 pub mod Sound
 pub mod Laws
 pub mod World

@@ -1,14 +1,36 @@
 -- What each step keeps.
-use Rattle.std.specs.Prelude.{◌≡◌, ℕ, ◌≤◌, List, [], map, length, Some}
+use Rattle.std.specs.Prelude.{◌≡◌, ℕ, ◌+◌, ◌^◌, ◌<◌, ◌≤◌, true, false, List, [], map, length, Some, slice_get}
 use Rattle.std.specs.List.{AllByRecursion}
+use Rattle.fb_bytes.specs.Bytes.{Bytes, is_same}
+use Rattle.fb_bytes.specs.declared.KeyRange.{KeyRange}
+use Rattle.fb_bytes.specs.declared.Pair.{Pair}
+use Rattle.fb_bytes.specs.Keys.{in_ranges, AreRanges}
+use Rattle.fb_outside.specs.declared.File.{File}
+use Rattle.fb_outside.specs.Files.{AreFiles, file_of}
 use Rattle.mutations.specs.declared.Entry.{Entry}
+use Rattle.mutations.specs.Clipping.{all_clipped}
+use Rattle.mutations.specs.Spelling.{mutations_spelling}
 use Rattle.mutations.specs.Histories.{IsRising}
+use Rattle.file_names.specs.declared.Name.TheVariants.{Range}
+use Rattle.file_names.specs.Reading.{name_of}
+use Rattle.container_view.specs.Contents.{file_grammars}
+use Rattle.container_view.specs.Files.{whole_name}
+use Rattle.container_view.specs.Honest.{IsHonestStore, listed_by}
+use Rattle.container_view.specs.Law.{Source}
+use Rattle.snapshot_plan.specs.declared.Noted.{Noted}
+use Rattle.snapshot_plan.specs.Noted.{pieces_of}
+use Rattle.snapshot_plan.specs.Pieces.{ArePieces}
+use Rattle.snapshot_plan.specs.Listing.{noted_names, AreDistinct}
+use Rattle.workload_text.specs.Commands.{is_container_name}
+use Rattle.workload_text.specs.declared.Workload.{Workload}
 use Rattle.workload_text.specs.declared.Side.{Side}
 use Rattle.workload_text.specs.declared.Side.TheVariants.{Src, Dst}
 use Rattle.workload_text.specs.declared.ClientScript.{ClientScript}
 use Rattle.database.specs.Commits.{most_version}
+use Rattle.database.specs.Dumps.{AreWithin}
 use Rattle.client_core.specs.Clients.{ClientState}
 use Rattle.client_core.specs.Legal.{entries_by, IsLegal}
+use Rattle.cluster_core.specs.Jobs.{Job}
 use Rattle.cluster_core.specs.State.{State, on_side, history_on, client_at}
 
 -- The entries stand in the order of their versions, and none is past the newest version.
@@ -31,8 +53,80 @@ pub record IsClientSound (src dst : List Entry) (number : ℕ) (client : ClientS
 abbrev pub scripts_of : State → List ClientScript
 scripts_of w = map (λ client. client.script) w.clients
 
-pub record Sound (scripts : List ClientScript) (w : State) : Type 0 where
+-- ---- jobs
+
+-- what a job logs of each entry from a version on has fewer than 2^32 bytes
+abbrev pub AreLoggable : List KeyRange → ℕ → List Entry → Type 0
+AreLoggable ranges begin history = AllByRecursion (λ entry. begin ≤ entry.version → length (mutations_spelling (all_clipped ranges entry.muts)) < 2 ^ 32) history
+
+-- a range file of this version, whose ticket was drawn
+pub record IsNoted (block now tickets : ℕ) (noted : Noted) : Type 0 where
+  pub past : noted.file.version ≤ now
+  pub snapshot : ℕ
+  pub ticket : ℕ
+  pub drawn : ticket < tickets
+  pub name : name_of noted.file.name ≡ Range snapshot noted.file.version ticket block
+
+-- What is kept of a job, over the history of its database.
+pub record IsJobSound (block now tickets : ℕ) (history : List Entry) (job : Job) : Type 0 where
+  pub named : is_container_name job.container ≡ true
+  pub ranges : AreRanges job.hand.map.ranges
+  pub some : 0 < length job.hand.map.ranges
+  -- the pieces of its snapshot are in order, and in its ranges
+  pub pieces : ArePieces (pieces_of job.hand.map.noted)
+  pub inside : (key : Bytes) → in_ranges (pieces_of job.hand.map.noted) key ≡ true → in_ranges job.hand.map.ranges key ≡ true
+  -- each has a file of its own
+  pub noted : AllByRecursion (IsNoted block now tickets) job.hand.map.noted
+  pub distinct : AreDistinct (noted_names job.hand.map.noted)
+  pub snapshot : job.hand.snapshot ≤ now
+  -- its log goes on from where it was cut
+  pub begun : job.hand.begin ≤ job.hand.next
+  pub next : job.hand.next ≤ now + 1
+  pub logged : job.hand.aborted ≡ false → AreLoggable job.hand.map.ranges job.hand.begin history
+
+-- what a job's container is a backup of
+abbrev pub source_of : ℕ → ℕ → List Entry → Job → Source
+source_of block now history job = record { history = history; now = now; ranges = job.hand.map.ranges; block = block }
+
+-- the file of a noted piece is in the container, and has that piece
+pub record IsThere (block : ℕ) (container : Bytes) (files : List File) (noted : Noted) : Type 0 where
+  pub bytes : Bytes
+  pub file : file_of files (whole_name container noted.file.name) ≡ Some bytes
+  pub pairs : List Pair
+  pub content : file_grammars.range block bytes ≡ Some (record { range = noted.piece; pairs = pairs })
+
+-- the name is that of a range file whose ticket was drawn
+pub record IsDrawn (tickets : ℕ) (name : Bytes) : Type 0 where
+  pub snapshot : ℕ
+  pub version : ℕ
+  pub ticket : ℕ
+  pub block : ℕ
+  pub read : name_of name ≡ Range snapshot version ticket block
+  pub drawn : ticket < tickets
+
+-- What is kept of a job's container, where the store tells its files.
+pub record IsStored (block now tickets : ℕ) (history : List Entry) (files : List File) (job : Job) : Type 0 where
+  pub honest : IsHonestStore file_grammars (source_of block now history job) job.container files
+  pub there : AllByRecursion (IsThere block job.container files) job.hand.map.noted
+  -- manifests list range files with drawn tickets alone
+  pub listed : (name bytes : Bytes) (names : List Bytes) → file_of files (whole_name job.container name) ≡ Some bytes → listed_by file_grammars (name_of name) bytes ≡ Some names → AllByRecursion (IsDrawn tickets) names
+
+-- no two jobs have one container
+abbrev pub AreApart : List Job → Type 0
+AreApart jobs = (a b : ℕ) (first second : Job) → slice_get jobs a ≡ Some first → slice_get jobs b ≡ Some second → is_same first.container second.container ≡ true → a ≡ b
+
+-- What is kept of all jobs, over the files that the store tells.
+pub record AreStored (block : ℕ) (w : State) (files : List File) : Type 0 where
+  pub ordered : AreFiles files
+  pub each : (place : ℕ) (job : Job) → slice_get w.jobs place ≡ Some job → IsStored block w.time w.tickets (history_on job.side w) files job
+
+pub record Sound (p : Workload) (w : State) : Type 0 where
   pub bound : w.time ≤ most_version
   pub histories : (side : Side) → IsOrdered w.time (history_on side w)
-  pub scripts_are : scripts_of w ≡ scripts
+  pub within : (side : Side) → AreWithin p.settings.block (history_on side w)
+  pub scripts_are : scripts_of w ≡ p.clients
   pub clients : (number : ℕ) (client : ClientState) → client_at w.clients number ≡ Some client → IsClientSound w.src w.dst number client
+  pub tickets : w.tickets ≤ most_version + 1
+  pub jobs : (place : ℕ) (job : Job) → slice_get w.jobs place ≡ Some job → IsJobSound p.settings.block w.time w.tickets (history_on job.side w) job
+  pub apart : AreApart w.jobs
+  pub stored : (files : List File) → w.files ≡ Some files → AreStored p.settings.block w files

@@ -1,11 +1,14 @@
 -- The machine's state.
-use Rattle.std.specs.Prelude.{ℕ, zero, suc, List, [], map, Option, None, slice_get, slice_set}
+use Rattle.std.specs.Prelude.{ℕ, zero, suc, List, [], map, Option, Some, None, slice_get, slice_set}
+use Rattle.fb_bytes.specs.Bytes.{Bytes}
 use Rattle.fb_outside.specs.declared.File.{File}
+use Rattle.fb_outside.specs.Files.{with_file}
 use Rattle.mutations.specs.declared.Entry.{Entry}
 use Rattle.workload_text.specs.declared.Side.{Side}
 use Rattle.workload_text.specs.declared.Side.TheVariants.{Src, Dst}
 use Rattle.workload_text.specs.declared.Workload.{Workload}
 use Rattle.client_core.specs.Clients.{ClientState, new_client}
+use Rattle.cluster_core.specs.Jobs.{Job}
 
 pub record State : Type 0 where
   -- the newest version
@@ -15,6 +18,12 @@ pub record State : Type 0 where
   pub dst : List Entry
   -- in the order of their numbers
   pub clients : List ClientState
+  -- in the order of their numbers
+  pub jobs : List Job
+  -- how many of the operator's commands have ended
+  pub place : ℕ
+  -- the next ticket: files are numbered in the order of the puts that succeeded
+  pub tickets : ℕ
   -- the files of the store, where it tells them
   pub files : Option (List File)
 
@@ -41,6 +50,15 @@ abbrev pub put_client : List ClientState → ℕ → ClientState → List Client
 put_client clients zero client = clients
 put_client clients (suc n) client = slice_set clients n client
 
+-- the state with another job at a place
+abbrev pub with_job : ℕ → Job → State → State
+with_job place job w = record w { jobs = slice_set w.jobs place job }
+
+-- the files with a put, where they are told
+abbrev pub with_put : Bytes → Bytes → Option (List File) → Option (List File)
+with_put whole bytes None = None
+with_put whole bytes (Some files) = Some (with_file files whole bytes)
+
 -- the state in which a workload begins
 abbrev pub opening : Workload → Option (List File) → State
-opening workload files = record { time = 0; src = []; dst = []; clients = map new_client workload.clients; files = files }
+opening workload files = record { time = 0; src = []; dst = []; clients = map new_client workload.clients; jobs = []; place = 0; tickets = 1; files = files }

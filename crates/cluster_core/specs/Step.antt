@@ -1,28 +1,20 @@
 -- One step of the machine, and its runs.
-use Rattle.std.specs.Prelude.{◌≡◌, ℕ, List, [], ◌∷◌, Option, Some, None, Result, Ok, Err}
+use Rattle.std.specs.Prelude.{◌≡◌, ℕ, List, [], ◌∷◌, Option, Some, None, Result, Ok, Err, slice_get, if◌then◌else◌}
 use Rattle.fb_bytes.specs.Options.{◌>>=◌}
 use Rattle.workload_text.specs.declared.Settings.{Settings}
+use Rattle.workload_text.specs.declared.Workload.{Workload}
 use Rattle.client_core.specs.Clients.{ClientState, begun_client, Try, commit_try}
 use Rattle.cluster_core.specs.declared.event.Event.{Event}
 use Rattle.cluster_core.specs.declared.event.Event.TheVariants.{Begin, Commit}
+use Rattle.cluster_core.specs.declared.event.Event.TheVariants as events
 use Rattle.cluster_core.specs.declared.event.Answer.{Answer}
 use Rattle.cluster_core.specs.declared.event.Answer.TheVariants.{Nothing, Read, Outcome}
 use Rattle.cluster_core.specs.declared.event.StepFault.{StepFault}
 use Rattle.cluster_core.specs.declared.event.StepFault.TheVariants.{NoMemory}
+use Rattle.cluster_core.specs.Jobs.{logs_of}
 use Rattle.cluster_core.specs.State.{State, history_on, with_history, client_at, put_client}
-
--- What the outside does in a step: memory may be short.
-pub data Luck : Type 0 where
-  Fine : Luck
-  Starved : Luck
-
--- what a step answers, and the state after it
-pub record Moved : Type 0 where
-  pub answer : Result Answer StepFault
-  pub state : State
-
-abbrev pub moved : Result Answer StepFault → State → Moved
-moved answer state = record { answer = answer; state = state }
+use Rattle.cluster_core.specs.Moves.{Luck, is_starved, Moved, moved}
+use Rattle.cluster_core.specs.Commands.{operator_with}
 
 -- ---- begin
 
@@ -46,7 +38,7 @@ commit_with w number (Some try) = moved (Ok (Outcome try.outcome)) (after w numb
 
 -- a client's try in this state
 abbrev pub try_in : Settings → State → ClientState → Option Try
-try_in s w client = commit_try s.block w.time s.pace (history_on client.script.side w) client
+try_in s w client = commit_try s.block w.time s.pace (logs_of client.script.side w.jobs) (history_on client.script.side w) client
 
 -- A try is made where the client is there and has begun a transaction.
 abbrev pub commit : Settings → State → ℕ → Moved
@@ -54,20 +46,24 @@ commit s w number = commit_with w number (client_at w.clients number >>= try_in 
 
 -- ---- all events
 
+-- The operator's next command, where one is left.
+abbrev pub operate : Workload → State → Luck → Moved
+operate p w luck = operator_with p.settings w luck (slice_get p.operator w.place)
+
 -- what an event gives where memory suffices for it
-abbrev pub event_gives : Settings → State → Event → Moved
-event_gives s w (Begin client) = begin w client
-event_gives s w (Commit client) = commit s w client
+abbrev pub event_gives : Workload → State → Luck → Event → Moved
+event_gives p w luck (Begin client) = begin w client
+event_gives p w luck (Commit client) = commit p.settings w client
+event_gives p w luck events.Command = operate p w luck
 
 -- A step for which memory is short is refused, and changes nothing.
-abbrev pub step : Settings → State → Event → Luck → Moved
-step s w event Fine = event_gives s w event
-step s w event Starved = moved (Err NoMemory) w
+abbrev pub step : Workload → State → Event → Luck → Moved
+step p w event luck = if is_starved luck then moved (Err NoMemory) w else event_gives p w luck event
 
 -- From old, the machine may give this answer to the event and go on to new.
-pub record Step (s : Settings) (old : State) (event : Event) (answer : Result Answer StepFault) (new : State) : Type 0 where
+pub record Step (p : Workload) (old : State) (event : Event) (answer : Result Answer StepFault) (new : State) : Type 0 where
   pub luck : Luck
-  pub gives : step s old event luck ≡ moved answer new
+  pub gives : step p old event luck ≡ moved answer new
 
 -- an event and what it was answered
 pub record Turn : Type 0 where
@@ -75,6 +71,6 @@ pub record Turn : Type 0 where
   pub answer : Result Answer StepFault
 
 -- From old, a run may take these turns and end in new.
-abbrev pub Run : Settings → State → List Turn → State → Type 0
-Run s old [] new = old ≡ new
-Run s old (turn ∷ turns) new = (middle : State) × Step s old turn.event turn.answer middle × Run s middle turns new
+abbrev pub Run : Workload → State → List Turn → State → Type 0
+Run p old [] new = old ≡ new
+Run p old (turn ∷ turns) new = (middle : State) × Step p old turn.event turn.answer middle × Run p middle turns new

@@ -1,10 +1,15 @@
-ghost use Rattle.std.specs.Prelude.{◌≡◌, ℕ, List, Option, Some, None, Ok, map, MatchOption, IfOk, OnErr};
+ghost use Rattle.std.specs.Prelude.{◌≡◌, ℕ, ◌≤◌, List, Option, Some, None, Ok, map, MatchOption, IfOk, IfErr, OnErr};
 ghost use Rattle.fb_outside.specs.declared.File.{File};
+ghost use Rattle.std.specs.List.{AllByRecursion};
+ghost use Rattle.mutations.specs.declared.Entry.{Entry};
 ghost use Rattle.workload_text.specs.declared.Settings.{Settings};
+ghost use Rattle.workload_text.specs.declared.Side.TheVariants as spec;
 ghost use Rattle.client_core.specs.Clients.{ClientState, new_client};
 ghost use Rattle.cluster_core.specs.State.{put_client};
-ghost use Rattle.cluster_core.specs.Step.{commit, moved};
-ghost use Rattle.cluster_core.specs.World.{state_of, begun_in, tried_in, side_in, answer_of};
+ghost use Rattle.cluster_core.specs.Jobs.{logs_of};
+ghost use Rattle.cluster_core.specs.Moves.{moved};
+ghost use Rattle.cluster_core.specs.Step.{commit};
+ghost use Rattle.cluster_core.specs.World.{Desk, state_of, begun_in, tried_in, side_in, answer_of};
 
 use crate::{Answer, StepFault};
 use client_core::{Client, Outcome};
@@ -56,11 +61,16 @@ pub fn commit_client(
     dst: &mut Db,
     versions: &mut Versions,
 ) -> Result<Answer, StepFault>
-    ensures ok { IfOk result (λ answer. (s : Settings) (files : Option (List File)) → src.old.block ≡ s.block → dst.old.block ≡ s.block → versions.old.pace ≡ s.pace →
-        commit s (state_of clients.old src.old dst.old versions.old files) number ≡ moved (Ok answer) (state_of clients.new src.new dst.new versions.new files)) }
+    requires pace { 1 ≤ versions.old.pace }
+    requires src { AllByRecursion (λ (entry : Entry). entry.version ≤ versions.old.now) src.old.history }
+    requires dst { AllByRecursion (λ (entry : Entry). entry.version ≤ versions.old.now) dst.old.history }
+    ensures ok { IfOk result (λ answer. (s : Settings) (desk : Desk) (files : Option (List File)) → src.old.block ≡ s.block → dst.old.block ≡ s.block → versions.old.pace ≡ s.pace → src.old.logs ≡ logs_of spec.Src desk.jobs → dst.old.logs ≡ logs_of spec.Dst desk.jobs →
+        commit s (state_of clients.old src.old dst.old versions.old desk files) number ≡ moved (Ok answer) (state_of clients.new src.new dst.new versions.new desk files)) }
     ensures blocks { (src.new.block ≡ src.old.block) × (dst.new.block ≡ dst.old.block) }
+    ensures logs { (src.new.logs ≡ src.old.logs) × (dst.new.logs ≡ dst.old.logs) }
     ensures pace { versions.new.pace ≡ versions.old.pace }
     ensures err { OnErr result ((clients.new ≡ clients.old) × (src.new ≡ src.old) × (dst.new ≡ dst.old) × (versions.new ≡ versions.old)) }
+    ensures fault { IfErr result (λ fault. fault ≡ StepFault.NoMemory) }
 {
     match side_of(clients, number) {
         Some(Side::Src) => {
@@ -105,6 +115,8 @@ fn try_client(
     db: &mut Db,
     versions: &mut Versions,
 ) -> Result<Option<Outcome>, AllocError>
+    requires pace { 1 ≤ versions.old.pace }
+    requires past { AllByRecursion (λ (entry : Entry). entry.version ≤ versions.old.now) db.old.history }
     ensures ok { IfOk result (λ outcome. MatchOption outcome
         ((tried_in clients.old number db.old versions.old ≡ None)
         × (clients.new ≡ clients.old) × (db.new ≡ db.old) × (versions.new ≡ versions.old))
@@ -112,7 +124,7 @@ fn try_client(
         × (tried_in clients.old number db.old versions.old
         ≡ Some (record { outcome = outcome; client = client; history = db.new.history; time = versions.new.now }))
         × (clients.new ≡ put_client clients.old number client))) }
-    ensures same { (db.new.block ≡ db.old.block) × (versions.new.pace ≡ versions.old.pace) }
+    ensures same { (db.new.block ≡ db.old.block) × (db.new.logs ≡ db.old.logs) × (versions.new.pace ≡ versions.old.pace) }
     ensures err { OnErr result ((clients.new ≡ clients.old) × (db.new ≡ db.old) × (versions.new ≡ versions.old)) }
 {
     if number == 0 {

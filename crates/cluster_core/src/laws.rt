@@ -1,4 +1,4 @@
-ghost use Rattle.cluster_core.specs.Laws.{OpeningLaw, StepLaw, RunLaw};
+ghost use Rattle.cluster_core.specs.Laws.{OpeningLaw, StepLaw, RunLaw, FaithfulLaw};
 
 /// The opening state of each workload is sound.
 pub fn opening_law()
@@ -13,4 +13,9 @@ pub fn step_law()
 /// So every run keeps it.
 pub fn run_law()
     ensures { RunLaw }
+{}
+
+/// In a sound state each job's container is faithful.
+pub fn faithful_law()
+    ensures { FaithfulLaw }
 {}

@@ -3,9 +3,18 @@
 
 mod clients;
 mod event;
+mod job;
+mod job_state;
 mod laws;
+mod logging;
+mod plan;
+mod planning;
+mod refusal;
 mod world;
 
 pub use event::{Answer, Event, StepFault};
-pub use laws::{opening_law, run_law, step_law};
+pub use job::{Job, Jobs};
+pub use job_state::JobState;
+pub use laws::{faithful_law, opening_law, run_law, step_law};
+pub use refusal::Refusal;
 pub use world::{OpenFault, Parts, World};

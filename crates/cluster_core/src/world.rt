@@ -1,21 +1,32 @@
-ghost use Rattle.std.specs.Prelude.{◌≡◌, Ok, Err, map, IfOk, IfErr, OnErr};
+ghost use Rattle.std.specs.Prelude.{◌≡◌, ◌+◌, ◌<◌, List, [], length, Some, Ok, Err, map, slice_get, ◌⊎◌, IfOk, IfErr, OnErr, IsErrOf};
+ghost use Rattle.std.specs.Option.{option_copied};
+ghost use Rattle.fb_outside.specs.Faults.{Counts};
 ghost use Rattle.client_core.specs.Clients.{ClientState, new_client};
+ghost use Rattle.cluster_core.specs.Jobs as spec;
 ghost use Rattle.cluster_core.specs.State.{State, opening};
-ghost use Rattle.cluster_core.specs.Step.{Step, begin, commit, moved};
+ghost use Rattle.cluster_core.specs.Moves.{Luck, Fine, moved};
+ghost use Rattle.cluster_core.specs.Commands.{gone_on};
+ghost use Rattle.cluster_core.specs.Step.{Step, begin, commit, step};
+ghost use Rattle.cluster_core.specs.Plans.{IsPlan, IsSafe};
 ghost use Rattle.cluster_core.specs.Sound.{Sound};
+ghost use Rattle.cluster_core.specs.World.{CommitSteps, IsListed, IsFirstName};
 
 use crate::clients::{begin_client, commit_client, new_clients};
-use crate::{Answer, Event, StepFault};
+use crate::logging::{begin_log, end_log};
+use crate::plan::{Filing, Plan};
+use crate::{Answer, Event, Job, Jobs, Refusal, StepFault};
+use backup_core::HandJob;
 use block_frame::Profile;
 use client_core::{Client, Outcomes};
+use container_view::{ViewFault, list_names};
 use database::Db;
-use fb_bytes::TryCopy;
-use fb_outside::Vault;
+use fb_bytes::{Names, Ranges, Text, TryCopy};
+use fb_outside::{Vault, VaultFail};
 use mutations::History;
 use std::alloc::{AllocError, Global};
 use std::marker::Model;
 use versioned_kv::Versions;
-use workload_text::{Settings, Workload};
+use workload_text::{Command, Settings, Side, Workload};
 
 /// There was no memory for a world. The vault comes back.
 #[derive(Debug, Drop)]
@@ -30,6 +41,8 @@ pub struct Parts<V> {
     pub dst: History,
     /// What became of the clients' tries.
     pub outcomes: Outcomes,
+    /// In the order of their numbers.
+    pub jobs: Jobs,
     /// The newest version.
     pub end: u64,
     pub vault: V,
@@ -38,22 +51,31 @@ pub struct Parts<V> {
 /// Two databases, their clients and the file store. Each event is one step.
 #[derive(Drop)]
 pub struct World<V: Vault> {
-    workload: Workload,
-    versions: Versions,
-    src: Db,
-    dst: Db,
+    pub(crate) workload: Workload,
+    pub(crate) versions: Versions,
+    pub(crate) src: Db,
+    pub(crate) dst: Db,
     clients: Vec<Client>,
+    pub(crate) jobs: Vec<Job>,
+    /// How many of the operator's commands have ended.
+    pub(crate) place: usize,
+    /// The next ticket.
+    pub(crate) tickets: u64,
     vault: V,
+    pub(crate) alloc: Global,
 }
 
 impl<V: Vault> Model for World<V> {
-    ghost use Rattle.cluster_core.specs.World.{Seen, state_of, IsWorld};
+    ghost use Rattle.cluster_core.specs.World.{Seen, Desk, allowed_code, state_of, IsWorld};
+    ghost use Rattle.std.specs.Coded.{codes};
 
     ghost Value = { Seen };
 
-    ghost view = { λ w. record { workload = w.workload; state = state_of w.clients.items w.src w.dst w.versions (V.files w.vault); faults = V.faults w.vault } };
+    ghost coded = { Prim.hlevel (codes, allowed_code) };
 
-    ghost invariant = { λ w. IsWorld w.workload w.src w.dst w.versions (state_of w.clients.items w.src w.dst w.versions (V.files w.vault)) };
+    ghost view = { λ w. record { workload = w.workload; state = state_of w.clients.items w.src w.dst w.versions (record { jobs = w.jobs.items; place = w.place; tickets = w.tickets }) (V.files w.vault); faults = V.faults w.vault } };
+
+    ghost invariant = { λ w. IsWorld w.workload w.src w.dst w.versions (state_of w.clients.items w.src w.dst w.versions (record { jobs = w.jobs.items; place = w.place; tickets = w.tickets }) (V.files w.vault)) };
 }
 
 impl<V: Vault> World<V> {
@@ -62,7 +84,7 @@ impl<V: Vault> World<V> {
         ensures workload { IfOk result (λ world. world.workload ≡ workload.now) }
         ensures opening { IfOk result (λ world. world.state ≡ opening workload.now (V.files vault)) }
         ensures faults { IfOk result (λ world. world.faults ≡ V.faults vault) }
-        ensures sound { IfOk result (λ world. Sound world.workload.clients world.state) }
+        ensures sound { IfOk result (λ world. Sound world.workload world.state) }
         ensures vault_back { IfErr result (λ fault. fault.vault ≡ vault) }
     {
         let profile = profile_of(&workload.settings);
@@ -78,7 +100,11 @@ impl<V: Vault> World<V> {
             src: Db::new(alloc, profile),
             dst: Db::new(alloc, profile),
             clients,
+            jobs: Vec::new(alloc),
+            place: 0,
+            tickets: 1,
             vault,
+            alloc,
         })
     }
 
@@ -96,18 +122,25 @@ impl<V: Vault> World<V> {
         self.versions.now
     }
 
+    /// The operator's next command, where one is left. It takes no memory.
+    pub fn command(&self) -> Option<&Command>
+        ensures { option_copied result ≡ slice_get self.now.workload.operator self.now.state.place }
+    {
+        self.workload.operator.as_slice().get(self.place)
+    }
+
     /// Makes one step. A refused one leaves the world as it was.
     pub fn step(&mut self, event: &Event) -> Result<Answer, StepFault>
-        ensures step { Step self.old.workload.settings self.old.state event.now result self.new.state }
+        ensures step { Step self.old.workload self.old.state event.now result self.new.state }
         ensures workload { self.new.workload ≡ self.old.workload }
-        ensures faults { self.new.faults ≡ self.old.faults }
-        ensures files { self.new.state.files ≡ self.old.state.files }
-        ensures refused { OnErr result (self.new.state ≡ self.old.state) }
-        ensures sound { Sound self.new.workload.clients self.new.state }
+        // The store's count of faults rose where the step was refused for it.
+        ensures faults { Counts self.old.faults self.new.faults (IsErrOf result StepFault.VaultFault) }
+        ensures sound { Sound self.new.workload self.new.state }
     {
         let answer = match event {
             Event::Begin { client } => Ok(self.begin(*client)),
             Event::Commit { client } => self.commit(*client),
+            Event::Command => self.operate(),
         };
         let _sound = &self.workload;
         answer
@@ -118,10 +151,11 @@ impl<V: Vault> World<V> {
         ensures src { result.src ≡ self.state.src }
         ensures dst { result.dst ≡ self.state.dst }
         ensures outcomes { result.outcomes ≡ map (λ (client : ClientState). client.outcomes) self.state.clients }
+        ensures jobs { result.jobs ≡ map spec.job_told self.state.jobs }
         ensures end { result.end ≡ self.state.time }
         ensures files { V.files result.vault ≡ self.state.files }
         ensures faults { V.faults result.vault ≡ self.faults }
-        ensures sound { Sound self.workload.clients self.state }
+        ensures sound { Sound self.workload self.state }
     {
         let World {
             workload: _,
@@ -129,12 +163,17 @@ impl<V: Vault> World<V> {
             src,
             dst,
             clients,
+            jobs,
+            place: _,
+            tickets: _,
             vault,
+            alloc: _,
         } = self;
         Parts {
             src: src.into_history(),
             dst: dst.into_history(),
             outcomes: Outcomes::from_clients(clients),
+            jobs: Jobs::from_vec(jobs),
             end: versions.now,
             vault,
         }
@@ -153,21 +192,210 @@ impl<V: Vault> World<V> {
     }
 
     fn commit(&mut self, number: u32) -> Result<Answer, StepFault>
-        ensures step { IfOk result (λ answer. commit self.old.workload.settings self.old.state number ≡ moved (Ok answer) self.new.state) }
+        ensures step { CommitSteps self.old.workload.settings self.old.state number result self.new.state }
         ensures workload { self.new.workload ≡ self.old.workload }
         ensures faults { self.new.faults ≡ self.old.faults }
         ensures files { self.new.state.files ≡ self.old.state.files }
         ensures refused { OnErr result (self.new.state ≡ self.old.state) }
+        ensures fault { IsErrOf result StepFault.VaultFault → ⊥ }
     {
         let versions = &mut self.versions;
-        commit_client(
+        let answer = match commit_client(
             &mut self.clients,
             number,
             &mut self.src,
             &mut self.dst,
             versions,
-        )
+        ) {
+            Ok(answer) => answer,
+            Err(fault) => return Err(fault),
+        };
+        Ok(answer)
     }
+
+    /// Makes the step of the operator's next command.
+    fn operate(&mut self) -> Result<Answer, StepFault>
+        ensures step { (luck : Luck) × (step self.old.workload self.old.state Event.Command luck ≡ moved result self.new.state) }
+        ensures workload { self.new.workload ≡ self.old.workload }
+        ensures faults { Counts self.old.faults self.new.faults (IsErrOf result StepFault.VaultFault) }
+    {
+        match self.plan()? {
+            Plan::Nothing => Ok(Answer::Nothing),
+            Plan::Refuse(refusal) => {
+                self.go_on();
+                Ok(Answer::Refused(refusal))
+            }
+            Plan::Tell(state) => {
+                self.go_on();
+                Ok(Answer::State { state })
+            }
+            Plan::Put(filing) => self.put(filing),
+            Plan::Abort { place } => {
+                self.abort(place);
+                Ok(Answer::Done)
+            }
+            Plan::Open {
+                tag,
+                side,
+                container,
+                ranges,
+            } => self.open_listed(tag, side, container, ranges),
+        }
+    }
+
+    // The operator goes on to the next command.
+    fn go_on(&mut self)
+        requires { self.old.state.place < length self.old.workload.operator }
+        ensures state { self.new.state ≡ gone_on self.old.state }
+        ensures workload { self.new.workload ≡ self.old.workload }
+        ensures faults { self.new.faults ≡ self.old.faults }
+    {
+        self.place = next_place(self.place, self.workload.operator.len());
+    }
+
+    // Puts a job's file.
+    fn put(&mut self, filing: Filing) -> Result<Answer, StepFault>
+        requires plan { IsPlan self.old.workload self.old.state (Plan.Put filing) }
+        requires safe { IsSafe self.old.state (Plan.Put filing) }
+        requires room { self.old.state.place < length self.old.workload.operator }
+        ensures step { (luck : Luck) × (step self.old.workload self.old.state Event.Command luck ≡ moved result self.new.state) }
+        ensures workload { self.new.workload ≡ self.old.workload }
+        ensures faults { Counts self.old.faults self.new.faults (IsErrOf result StepFault.VaultFault) }
+    {
+        match self
+            .vault
+            .put(self.alloc, &filing.whole, filing.bytes.as_slice())
+        {
+            Ok(()) => {
+                self.jobs[filing.place] = filing.job;
+                self.tickets += 1;
+                self.place = next_place(self.place, self.workload.operator.len());
+                Ok(Answer::Placed { name: filing.whole })
+            }
+            Err(VaultFail::Failed) => Err(StepFault::VaultFault),
+            Err(VaultFail::NoMemory) => Err(StepFault::NoMemory),
+        }
+    }
+
+    // Ends the job at a place.
+    fn abort(&mut self, place: usize)
+        requires plan { IsPlan self.old.workload self.old.state (Plan.Abort place) }
+        requires safe { IsSafe self.old.state (Plan.Abort place) }
+        requires room { self.old.state.place < length self.old.workload.operator }
+        ensures step { step self.old.workload self.old.state Event.Command (Fine []) ≡ moved (Ok Answer.Done) self.new.state }
+        ensures workload { self.new.workload ≡ self.old.workload }
+        ensures faults { self.new.faults ≡ self.old.faults }
+    {
+        let side = self.jobs[place].side();
+        end_log(&mut self.src, &mut self.dst, side, place as u64 + 1);
+        self.jobs[place].abort();
+        self.place = next_place(self.place, self.workload.operator.len());
+    }
+
+    // Starts a job, where its container is empty.
+    fn open_listed(
+        &mut self,
+        tag: Text,
+        side: Side,
+        container: Text,
+        ranges: Ranges,
+    ) -> Result<Answer, StepFault>
+        requires plan { IsPlan self.old.workload self.old.state (Plan.Open tag side container ranges) }
+        requires room { self.old.state.place < length self.old.workload.operator }
+        ensures step { (luck : Luck) × (step self.old.workload self.old.state Event.Command luck ≡ moved result self.new.state) }
+        ensures workload { self.new.workload ≡ self.old.workload }
+        ensures faults { Counts self.old.faults self.new.faults (IsErrOf result StepFault.VaultFault) }
+    {
+        match self.least_name(&container) {
+            Ok(Some(name)) => {
+                self.go_on();
+                Ok(Answer::Refused(Refusal::ContainerInUse { name }))
+            }
+            Ok(None) => self.start(tag, side, container, &ranges),
+            Err(fault) => Err(fault),
+        }
+    }
+
+    // The least name among a container's files, by one list of them.
+    fn least_name(&mut self, container: &Text) -> Result<Option<Text>, StepFault>
+        ensures listed { IfOk result (IsListed self.old.state container.now) }
+        ensures fault { IfErr result (λ fault. (fault ≡ StepFault.VaultFault) ⊎ (fault ≡ StepFault.NoMemory)) }
+        ensures state { self.new.state ≡ self.old.state }
+        ensures workload { self.new.workload ≡ self.old.workload }
+        ensures faults { Counts self.old.faults self.new.faults (IsErrOf result StepFault.VaultFault) }
+    {
+        match list_names(self.alloc, &mut self.vault, container) {
+            Ok(names) => {
+                let name = first_name(&names)?;
+                Ok(name)
+            }
+            Err(ViewFault::NoContainer) => Ok(None),
+            Err(ViewFault::VaultFault) => Err(StepFault::VaultFault),
+            Err(ViewFault::Damaged { .. } | ViewFault::NoMemory) => Err(StepFault::NoMemory),
+        }
+    }
+
+    // Takes a version for a job, whose log begins there.
+    fn start(
+        &mut self,
+        tag: Text,
+        side: Side,
+        container: Text,
+        ranges: &Ranges,
+    ) -> Result<Answer, StepFault>
+        requires plan { IsPlan self.old.workload self.old.state (Plan.Open tag side container ranges.now) }
+        requires empty { IsListed self.old.state container None }
+        requires room { self.old.state.place < length self.old.workload.operator }
+        ensures step { (luck : Luck) × (step self.old.workload self.old.state Event.Command luck ≡ moved result self.new.state) }
+        ensures workload { self.new.workload ≡ self.old.workload }
+        ensures faults { self.new.faults ≡ self.old.faults }
+        ensures no_fault { IsErrOf result StepFault.VaultFault → ⊥ }
+    {
+        let Some(version) = self.versions.next() else {
+            let version = self.versions.now;
+            return Err(StepFault::VersionsSpent { version });
+        };
+        let count = self.jobs.len();
+        let hand = HandJob::new(self.alloc, ranges, version)?;
+        let job = Job::new(tag, side, container, hand);
+        let Ok(()) = self.jobs.push(job) else {
+            return Err(StepFault::NoMemory);
+        };
+        match begin_log(
+            &mut self.src,
+            &mut self.dst,
+            &mut self.versions,
+            side,
+            count as u64 + 1,
+            ranges,
+        ) {
+            Ok(_) => {
+                self.place = next_place(self.place, self.workload.operator.len());
+                Ok(Answer::Done)
+            }
+            Err(_) => {
+                self.jobs.truncate(count);
+                Err(StepFault::NoMemory)
+            }
+        }
+    }
+}
+
+// The first of the names, where there is one.
+fn first_name(names: &Names) -> Result<Option<Text>, AllocError>
+    ensures { IfOk result (λ name. IsFirstName names.now name) }
+{
+    match names.as_slice().first() {
+        Some(name) => Ok(Some(name.copy()?)),
+        None => Ok(None),
+    }
+}
+
+// The place behind one of so many.
+fn next_place(place: usize, count: usize) -> usize
+    ensures { place < count → result ≡ place + 1 }
+{
+    if place < count { place + 1 } else { place }
 }
 
 // A copy of the workload, and its clients at the start of their scripts.

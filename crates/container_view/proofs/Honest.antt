@@ -1,5 +1,5 @@
 -- Steps on a store's files that keep a container honest.
-use Rattle.std.proofs.Common.{◌≡◌, ◌<◌, Bool, true, false, List, Option, Some, None, refl, sym, ap, ◌∙◌, subst}
+use Rattle.std.proofs.Common.{◌≡◌, ◌<◌, Bool, true, false, List, Option, Some, None, inl, inr, refl, sym, ap, ◌∙◌, subst}
 use Rattle.std.specs.List.{AllByRecursion}
 use Rattle.fb_bytes.specs.Bytes.{Bytes, is_same}
 use Rattle.fb_outside.specs.declared.File.{File}
@@ -13,14 +13,15 @@ use Rattle.fb_bytes.proofs.Order.{same_eq, same_itself}
 use Rattle.mutations.proofs.Basics.{not_both}
 use Rattle.container_view.specs.Folder.{Folder}
 use Rattle.container_view.specs.Law.{Source, IsHonest}
-use Rattle.container_view.specs.Changes.{PutRange, PutLog, PutManifest, Raise, DropRange, DropLog, DropManifest}
-use Rattle.container_view.specs.Files.{Grammars, name_in}
+use Rattle.container_view.specs.Changes.{PutRange, PutLog, PutManifest, Raise, DropRange, DropUnlisted, DropLog, DropManifest, IsListedNowhere, Opens, no_files}
+use Rattle.container_view.specs.Files.{Grammars, name_in, folder_in}
 use Rattle.container_view.specs.Stores.{OneMore}
-use Rattle.container_view.specs.Honest.{IsHonestStore, IsHonestFile, MayGo, IsProperty, HonestStoreLaw}
+use Rattle.container_view.specs.Honest.{IsHonestStore, IsHonestFile, MayGo, IsUnlisted, IsLogOrManifest, IsProperty, HonestStoreLaw}
 use Rattle.container_view.proofs.Faithful.{container_law}
-use Rattle.container_view.proofs.Kept.{growth_law, change_law}
+use Rattle.container_view.proofs.Kept.{growth_law, change_law, always_honest}
 use Rattle.container_view.proofs.Stores.{store_law}
 use Rattle.container_view.proofs.Files.{without_none}
+use Rattle.container_view.proofs.Lookups.{file_law, listed_nowhere}
 
 is_unreliable : (name : Bytes) → is_same name unreliable_text ≡ true → name_of name ≡ Unreliable
 is_unreliable name e = ap name_of (same_eq name unreliable_text e) ∙ name_again unreliable_text Unreliable refl
@@ -44,28 +45,91 @@ module _ (g : Grammars) (s : Source) where
   comes name bytes Expired few many fresh good u m h = subst (IsHonest s) (sym m) h
   comes name bytes Other few many fresh good u m h = subst (IsHonest s) (sym m) h
 
-  goes : (name bytes : Bytes) (said : Name) (few many : Folder) → MayGo many said → OneMore g name bytes said few many → IsHonest s many → IsHonest s few
-  goes name bytes (Range snapshot version ticket block) few many old m h = change_law s (record few { ranges = m.0 }) few (DropRange _ few.ranges (subst (λ (x : Folder). version < x.unreliable) m.2 old) m.1 refl) (subst (IsHonest s) m.2 h)
+  goes : (name bytes : Bytes) (said : Name) (few many : Folder) → MayGo many name said → OneMore g name bytes said few many → IsHonest s many → IsHonest s few
+  goes name bytes (Range snapshot version ticket block) few many (inl old) m h = change_law s (record few { ranges = m.0 }) few (DropRange _ few.ranges (subst (λ (x : Folder). version < x.unreliable) m.2 old) m.1 refl) (subst (IsHonest s) m.2 h)
+  goes name bytes (Range snapshot version ticket block) few many (inr nowhere) m h = change_law s (record few { ranges = m.0 }) few (DropUnlisted _ few.ranges (subst (λ (x : Folder). IsListedNowhere x name) m.2 nowhere) m.1 refl) (subst (IsHonest s) m.2 h)
   goes name bytes (Log begin end ticket block) few many old m h = change_law s (record few { logs = m.0 }) few (DropLog _ few.logs m.1 refl) (subst (IsHonest s) m.2 h)
   goes name bytes (Manifest begin end size ticket) few many old m h = change_law s (record few { manifests = m.0 }) few (DropManifest _ few.manifests m.1 refl) (subst (IsHonest s) m.2 h)
   goes name bytes Unreliable few many old m h = absurd old
   goes name bytes Expired few many old m h = subst (IsHonest s) m h
   goes name bytes Other few many old m h = subst (IsHonest s) m h
 
+  -- what a file owes the folder, it owes it without an old file of its name
+  owes_less : (name bytes old : Bytes) (said : Name) (few many : Folder) → (said ≡ Unreliable → ⊥) → OneMore g name old said few many → IsHonestFile g s many name bytes said → IsHonestFile g s few name bytes said
+  owes_less name bytes old (Range snapshot version ticket block) few many u m good = good
+  owes_less name bytes old (Log begin end ticket block) few many u m good = good
+  owes_less name bytes old (Manifest begin end size ticket) few many u m good = subst (λ (x : Folder). IsHonestFile g s x name bytes (Manifest begin end size ticket)) m.2 good
+  owes_less name bytes old Unreliable few many u m good = absurd (u refl)
+  owes_less name bytes old Expired few many u m good = tt
+  owes_less name bytes old Other few many u m good = tt
+
+  may_go : (folder : Folder) (name : Bytes) (said : Name) → (said ≡ Unreliable → ⊥) → IsListedNowhere folder name → MayGo folder name said
+  may_go folder name (Range snapshot version ticket block) u nowhere = inr nowhere
+  may_go folder name (Log begin end ticket block) u nowhere = tt
+  may_go folder name (Manifest begin end size ticket) u nowhere = tt
+  may_go folder name Unreliable u nowhere = absurd (u refl)
+  may_go folder name Expired u nowhere = tt
+  may_go folder name Other u nowhere = tt
+
+  beside_may_go : (folder : Folder) (name : Bytes) (said : Name) → IsLogOrManifest said → MayGo folder name said
+  beside_may_go folder name (Range snapshot version ticket block) b = absurd b
+  beside_may_go folder name (Log begin end ticket block) b = tt
+  beside_may_go folder name (Manifest begin end size ticket) b = tt
+  beside_may_go folder name Unreliable b = absurd b
+  beside_may_go folder name Expired b = absurd b
+  beside_may_go folder name Other b = absurd b
+
+  -- the range files and the unreliable end of both folders are the same
+  abbrev Keeps : Folder → Folder → Type 0
+  Keeps a b = (b.ranges ≡ a.ranges) × (b.unreliable ≡ a.unreliable)
+
+  beside_keeps : (name bytes : Bytes) (said : Name) (few many : Folder) → IsLogOrManifest said → OneMore g name bytes said few many → Keeps few many
+  beside_keeps name bytes (Range snapshot version ticket block) few many b m = absurd b
+  beside_keeps name bytes (Log begin end ticket block) few many b m = (ap (λ (x : Folder). x.ranges) m.2, ap (λ (x : Folder). x.unreliable) m.2)
+  beside_keeps name bytes (Manifest begin end size ticket) few many b m = (ap (λ (x : Folder). x.ranges) m.2, ap (λ (x : Folder). x.unreliable) m.2)
+  beside_keeps name bytes Unreliable few many b m = absurd b
+  beside_keeps name bytes Expired few many b m = absurd b
+  beside_keeps name bytes Other few many b m = absurd b
+
   module _ (container whole name : Bytes) (is_in : name_in container whole ≡ Some name) where
+    abbrev Store : List File → Type 0
+    Store files = IsHonestStore g s container files
+
     not_said : is_same name unreliable_text ≡ false → name_of name ≡ Unreliable → ⊥
     not_said other e = not_both (ap (λ x. is_same x unreliable_text) (unreliable_is name e) ∙ same_itself unreliable_text) other
 
-    fresh_put : (bytes : Bytes) (files : List File) (h : IsHonestStore g s container files) → is_same name unreliable_text ≡ false → file_of files whole ≡ None → IsHonestFile g s h.folder name bytes (name_of name) → IsHonestStore g s container (with_file files whole bytes)
-    fresh_put bytes files h other none good =
-        let m = store_law.put g container whole name bytes files h.folder (record { is_in = is_in; other = other }) none h.decoded in
-        record {
-          folder = m.0;
-          decoded = m.1;
-          honest = comes name bytes (name_of name) h.folder m.0 (store_law.fresh g container whole name files h.folder is_in none h.decoded) good (not_said other) m.2 h.honest;
-        }
+    -- the same files, so the same folder
+    abbrev same_files : (files others : List File) → others ≡ files → Store files → Store others
+    same_files files others e h = record { folder = h.folder; decoded = ap (folder_in g container) e ∙ h.decoded; honest = h.honest }
 
-    raise : (bytes : Bytes) (files : List File) (h : IsHonestStore g s container files) → is_same name unreliable_text ≡ true → AreFiles files → IsHonestFile g s h.folder name bytes (name_of name) → IsHonestStore g s container (with_file files whole bytes)
+    more : (bytes : Bytes) (files : List File) (h : Store files) → is_same name unreliable_text ≡ false → file_of files whole ≡ None → IsHonestFile g s h.folder name bytes (name_of name) → (after : Store (with_file files whole bytes)) × OneMore g name bytes (name_of name) h.folder after.folder
+    more bytes files h other none good =
+        let m = store_law.put g container whole name bytes files h.folder (record { is_in = is_in; other = other }) none h.decoded in (
+          record {
+            folder = m.0;
+            decoded = m.1;
+            honest = comes name bytes (name_of name) h.folder m.0 (store_law.fresh g container whole name files h.folder is_in none h.decoded) good (not_said other) m.2 h.honest;
+          },
+          m.2,
+        )
+
+    less : (bytes : Bytes) (files : List File) (h : Store files) → is_same name unreliable_text ≡ false → AreFiles files → file_of files whole ≡ Some bytes → MayGo h.folder name (name_of name) → (after : Store (without_file files whole)) × OneMore g name bytes (name_of name) after.folder h.folder
+    less bytes files h other r some may =
+        let m = store_law.delete g container whole name bytes files h.folder r (record { is_in = is_in; other = other }) some h.decoded in
+        (record { folder = m.0; decoded = m.1; honest = goes name bytes (name_of name) m.0 h.folder may m.2 h.honest }, m.2)
+
+    -- another file in the place of an old one: without the old one, and then with the new one
+    record Exchanges (old bytes : Bytes) (few before after : Folder) : Type 0 where
+      without : OneMore g name old (name_of name) few before
+      with_it : OneMore g name bytes (name_of name) few after
+
+    exchange : (old bytes : Bytes) (files : List File) (h : Store files) → is_same name unreliable_text ≡ false → AreFiles files → file_of files whole ≡ Some old → MayGo h.folder name (name_of name) → IsHonestFile g s h.folder name bytes (name_of name) → (after : Store (with_file files whole bytes)) × (few : Folder) × Exchanges old bytes few h.folder after.folder
+    exchange old bytes files h other r some may good =
+        let few = less old files h other r some may in
+        let many = more bytes (without_file files whole) few.0 other (without_none whole files) (owes_less name bytes old (name_of name) few.0.folder h.folder (not_said other) few.1 good) in
+        (same_files (with_file (without_file files whole) whole bytes) (with_file files whole bytes) (store_law.replace whole bytes files r) many.0, few.0.folder, record { without = few.1; with_it = many.1 })
+
+    raise : (bytes : Bytes) (files : List File) (h : Store files) → is_same name unreliable_text ≡ true → AreFiles files → IsHonestFile g s h.folder name bytes (name_of name) → Store (with_file files whole bytes)
     raise bytes files h same r good =
         let end = subst (IsHonestFile g s h.folder name bytes) (is_unreliable name same) good in
         record {
@@ -74,40 +138,58 @@ module _ (g : Grammars) (s : Source) where
           honest = change_law s h.folder _ (Raise end.0 end.2 refl) h.honest;
         }
 
-    put : (bytes : Bytes) (files : List File) (h : IsHonestStore g s container files) → AreFiles files → file_of files whole ≡ None → IsHonestFile g s h.folder name bytes (name_of name) → IsHonestStore g s container (with_file files whole bytes)
+    put : (bytes : Bytes) (files : List File) (h : Store files) → AreFiles files → file_of files whole ≡ None → IsHonestFile g s h.folder name bytes (name_of name) → Store (with_file files whole bytes)
     put bytes files h r none good = go (is_same name unreliable_text) refl
       where
-        go : (b : Bool) → is_same name unreliable_text ≡ b → IsHonestStore g s container (with_file files whole bytes)
+        go : (b : Bool) → is_same name unreliable_text ≡ b → Store (with_file files whole bytes)
         go true e = raise bytes files h e r good
-        go false e = fresh_put bytes files h e none good
+        go false e = (more bytes files h e none good).0
 
-    delete : (files : List File) (h : IsHonestStore g s container files) → AreFiles files → MayGo h.folder (name_of name) → IsHonestStore g s container (without_file files whole)
+    delete : (files : List File) (h : Store files) → AreFiles files → MayGo h.folder name (name_of name) → Store (without_file files whole)
     delete files h r may = go (file_of files whole) refl
       where
         other : (b : Bool) → is_same name unreliable_text ≡ b → is_same name unreliable_text ≡ false
-        other true e = absurd (subst (MayGo h.folder) (is_unreliable name e) may)
+        other true e = absurd (subst (MayGo h.folder name) (is_unreliable name e) may)
         other false e = e
 
-        go : (o : Option Bytes) → file_of files whole ≡ o → IsHonestStore g s container (without_file files whole)
-        go None none = subst (IsHonestStore g s container) (sym (store_law.gone whole files none)) h
-        go (Some bytes) some =
-            let m = store_law.delete g container whole name bytes files h.folder r (record { is_in = is_in; other = other (is_same name unreliable_text) refl }) some h.decoded in
-            record { folder = m.0; decoded = m.1; honest = goes name bytes (name_of name) m.0 h.folder may m.2 h.honest }
+        go : (o : Option Bytes) → file_of files whole ≡ o → Store (without_file files whole)
+        go None none = same_files files (without_file files whole) (store_law.gone whole files none) h
+        go (Some bytes) some = (less bytes files h (other (is_same name unreliable_text) refl) r some may).0
 
-    -- the other property
-    note : (bytes : Bytes) (files : List File) (h : IsHonestStore g s container files) → AreFiles files → is_same name unreliable_text ≡ false → name_of name ≡ Expired → IsHonestStore g s container (with_file files whole bytes)
-    note bytes files h r other e = go (file_of files whole) refl
+    -- an honest file, where an old one of its name may go
+    over : (bytes : Bytes) (files : List File) (h : Store files) → is_same name unreliable_text ≡ false → AreFiles files → MayGo h.folder name (name_of name) → IsHonestFile g s h.folder name bytes (name_of name) → Store (with_file files whole bytes)
+    over bytes files h other r may good = go (file_of files whole) refl
       where
-        good : (x : IsHonestStore g s container (without_file files whole)) → IsHonestFile g s x.folder name bytes (name_of name)
-        good x = subst (IsHonestFile g s x.folder name bytes) (sym e) tt
+        go : (o : Option Bytes) → file_of files whole ≡ o → Store (with_file files whole bytes)
+        go None none = (more bytes files h other none good).0
+        go (Some old) some = (exchange old bytes files h other r some may good).0
 
-        go : (o : Option Bytes) → file_of files whole ≡ o → IsHonestStore g s container (with_file files whole bytes)
-        go None none = fresh_put bytes files h other none (subst (IsHonestFile g s h.folder name bytes) (sym e) tt)
+    place : (bytes : Bytes) (files : List File) (h : Store files) → AreFiles files → IsUnlisted g container files name → IsHonestFile g s h.folder name bytes (name_of name) → Store (with_file files whole bytes)
+    place bytes files h r unlisted good = go (is_same name unreliable_text) refl
+      where
+        go : (b : Bool) → is_same name unreliable_text ≡ b → Store (with_file files whole bytes)
+        go true e = raise bytes files h e r good
+        go false e = over bytes files h e r (may_go h.folder name (name_of name) (not_said e) (listed_nowhere g container name files h.folder r h.decoded unlisted)) good
+
+    place_beside : (bytes : Bytes) (files : List File) (h : Store files) → AreFiles files → IsLogOrManifest (name_of name) → IsHonestFile g s h.folder name bytes (name_of name) → (after : Store (with_file files whole bytes)) × (after.folder.ranges ≡ h.folder.ranges) × (after.folder.unreliable ≡ h.folder.unreliable)
+    place_beside bytes files h r beside good = go (file_of files whole) refl
+      where
+        other : (b : Bool) → is_same name unreliable_text ≡ b → is_same name unreliable_text ≡ false
+        other true e = absurd (subst IsLogOrManifest (is_unreliable name e) beside)
+        other false e = e
+
+        go : (o : Option Bytes) → file_of files whole ≡ o → (after : Store (with_file files whole bytes)) × (after.folder.ranges ≡ h.folder.ranges) × (after.folder.unreliable ≡ h.folder.unreliable)
+        go None none =
+            let m = more bytes files h (other (is_same name unreliable_text) refl) none good in
+            let k = beside_keeps name bytes (name_of name) h.folder m.0.folder beside m.1 in
+            (m.0, k.0, k.1)
         go (Some old) some =
-            let gone = delete files h r (subst (MayGo h.folder) (sym e) tt) in
-            subst (IsHonestStore g s container) (sym (store_law.replace whole bytes files r)) (fresh_put bytes (without_file files whole) gone other (without_none whole files) (good gone))
+            let x = exchange old bytes files h (other (is_same name unreliable_text) refl) r some (beside_may_go h.folder name (name_of name) beside) good in
+            let k = beside_keeps name bytes (name_of name) x.1 x.0.folder beside x.2.with_it in
+            let l = beside_keeps name old (name_of name) x.1 h.folder beside x.2.without in
+            (x.0, k.0 ∙ sym l.0, k.1 ∙ sym l.1)
 
-    set : (bytes : Bytes) (files : List File) (h : IsHonestStore g s container files) → AreFiles files → IsProperty (name_of name) → IsHonestFile g s h.folder name bytes (name_of name) → IsHonestStore g s container (with_file files whole bytes)
+    set : (bytes : Bytes) (files : List File) (h : Store files) → AreFiles files → IsProperty (name_of name) → IsHonestFile g s h.folder name bytes (name_of name) → Store (with_file files whole bytes)
     set bytes files h r p good = go (is_same name unreliable_text) refl
       where
         expired : (said : Name) → name_of name ≡ said → IsProperty said → (said ≡ Unreliable → ⊥) → said ≡ Expired
@@ -118,16 +200,20 @@ module _ (g : Grammars) (s : Source) where
         expired Expired e p u = refl
         expired Other e p u = absurd p
 
-        go : (b : Bool) → is_same name unreliable_text ≡ b → IsHonestStore g s container (with_file files whole bytes)
+        go : (b : Bool) → is_same name unreliable_text ≡ b → Store (with_file files whole bytes)
         go true e = raise bytes files h e r good
-        go false e = note bytes files h r e (expired (name_of name) refl p (not_said e))
+        go false e = over bytes files h e r (subst (MayGo h.folder name) (sym (expired (name_of name) refl p (not_said e))) tt) good
 
 pub honest_store_law : HonestStoreLaw
 honest_store_law = record {
+  opens = λ g s container files rising past l e. record { folder = no_files; decoded = file_law.empty_folder g container files l e; honest = always_honest (Opens s rising past) };
   faithful = λ g s container files h. record { folder = h.folder; decoded = h.decoded; faithful = container_law s h.folder h.honest };
   grows = λ g old new container files grows h. record { folder = h.folder; decoded = h.decoded; honest = growth_law old new h.folder grows h.honest };
   put = λ g s container whole name bytes files h r is_in none good. put g s container whole name is_in bytes files h r none good;
   set = λ g s container whole name bytes files h r is_in p good. set g s container whole name is_in bytes files h r p good;
+  place = λ g s container whole name bytes files h r is_in unlisted good. place g s container whole name is_in bytes files h r unlisted good;
+  place_beside = λ g s container whole name bytes files h r is_in beside good. place_beside g s container whole name is_in bytes files h r beside good;
+  unlisted = listed_nowhere;
   delete = λ g s container whole name files h r is_in may. delete g s container whole name is_in files h r may;
   put_elsewhere = λ g s container whole bytes files h e. record { folder = h.folder; decoded = store_law.elsewhere g container whole bytes files e ∙ h.decoded; honest = h.honest };
   deleted_elsewhere = λ g s container whole files h e. record { folder = h.folder; decoded = store_law.deleted_elsewhere g container whole files e ∙ h.decoded; honest = h.honest };

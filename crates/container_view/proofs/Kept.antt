@@ -11,12 +11,13 @@ use Rattle.mutations.specs.declared.Entry.{Entry}
 use Rattle.mutations.specs.Replay.{replayed}
 use Rattle.mutations.specs.Histories.{batch_of, batches_of, IsRising, state_at, logged}
 use Rattle.mutations.proofs.Basics.{all_weaker}
+use Rattle.std.proofs.lemmas.Bool.{false_from_ne_true}
 use Rattle.fb_bytes.proofs.Order.{same_eq}
 use Rattle.mutations.proofs.Replays.{replayed_none, above_within, replayed_append}
 use Rattle.container_view.specs.Folder.{RangeFile, LogFile, ManifestFile, Folder}
 use Rattle.container_view.specs.Meaning.{Piece, read_range, piece_named}
 use Rattle.container_view.specs.Law.{Source, IsHonestRange, IsHonestLog, IsHonestManifest, IsHonest}
-use Rattle.container_view.specs.Changes.{Inserts, Grows, PutRange, PutLog, PutManifest, Raise, DropRange, DropLog, DropManifest, GrowthLaw, ChangeLaw, Reaches, Opens, Waits, Works, LifeLaw}
+use Rattle.container_view.specs.Changes.{Inserts, Grows, PutRange, PutLog, PutManifest, Raise, DropRange, DropUnlisted, DropLog, DropManifest, GrowthLaw, ChangeLaw, Reaches, Opens, Waits, Works, LifeLaw}
 use Rattle.container_view.proofs.Basics.{bind_some}
 use Rattle.container_view.proofs.Faithful.{container_law}
 
@@ -173,17 +174,17 @@ pub each_of_cons : {A B : Type 0} (g : A → Option B) (x : A) (xs : List A) (y 
 each_of_cons g x xs y ys h k = rw (h, k) refl
 
 -- where each result stays, all of them stay
-each_of_kept : {A B : Type 0} (f g : A → Option B) (xs : List A) (ys : List B) → ((x : A) (y : B) → IsIn y ys → f x ≡ Some y → g x ≡ Some y) → each_of f xs ≡ Some ys → each_of g xs ≡ Some ys
+each_of_kept : {A B : Type 0} (f g : A → Option B) (xs : List A) (ys : List B) → ((x : A) (y : B) → IsIn x xs → IsIn y ys → f x ≡ Some y → g x ≡ Some y) → each_of f xs ≡ Some ys → each_of g xs ≡ Some ys
 each_of_kept f g [] ys h e = e
 each_of_kept f g (x ∷ xs) ys h e =
     let y = bind_some (f x) _ ys e in
     let zs = bind_some (each_of f xs) _ ys y.2 in
     let n : ys ≡ y.0 ∷ zs.0 = cc (zs.2) in
-    let first = h x y.0 (subst (IsIn y.0) (sym n) (inl refl)) y.1 in
-    let rest = each_of_kept f g xs zs.0 (λ w z i. h w z (subst (IsIn z) (sym n) (inr i))) zs.1 in
+    let first = h x y.0 (inl refl) (subst (IsIn y.0) (sym n) (inl refl)) y.1 in
+    let rest = each_of_kept f g xs zs.0 (λ w z j i. h w z (inr j) (subst (IsIn z) (sym n) (inr i))) zs.1 in
     each_of_cons g x xs y.0 zs.0 first rest ∙ ap Some (sym n)
 
-pub manifest_kept : (s : Source) (old new : List RangeFile) (file : ManifestFile) (h : IsHonestManifest s old file) → ((name : Bytes) (p : Piece) → IsIn p h.pieces → piece_named old name ≡ Some p → piece_named new name ≡ Some p) → IsHonestManifest s new file
+pub manifest_kept : (s : Source) (old new : List RangeFile) (file : ManifestFile) (h : IsHonestManifest s old file) → ((name : Bytes) (p : Piece) → IsIn name h.names → IsIn p h.pieces → piece_named old name ≡ Some p → piece_named new name ≡ Some p) → IsHonestManifest s new file
 manifest_kept s old new file h k = record {
   names = h.names;
   content = h.content;
@@ -196,13 +197,24 @@ manifest_kept s old new file h k = record {
 
 pub manifest_more : (s : Source) (range : RangeFile) (old new : List RangeFile) → Inserts range old new → AllByRecursion (λ f. is_same f.name range.name ≡ false) old → (file : ManifestFile) → IsHonestManifest s old file → IsHonestManifest s new file
 manifest_more s range old new n fresh file h =
-    manifest_kept s old new file h (λ name p i e. subst (λ l. piece_named l name ≡ Some p) (sym n.many_is)
+    manifest_kept s old new file h (λ name p j i e. subst (λ l. piece_named l name ≡ Some p) (sym n.many_is)
     (named_more range n.before n.after name p (subst (AllByRecursion (λ f. is_same f.name range.name ≡ false)) n.few_is fresh) (subst (λ l. piece_named l name ≡ Some p) n.few_is e)))
 
 pub manifest_less : (s : Source) (range : RangeFile) (old new : List RangeFile) → Inserts range new old → (file : ManifestFile) → range.version < file.begin → IsHonestManifest s old file → IsHonestManifest s new file
 manifest_less s range old new n file l h =
-    manifest_kept s old new file h (λ name p i e. subst (λ l. piece_named l name ≡ Some p) (sym n.few_is)
+    manifest_kept s old new file h (λ name p j i e. subst (λ l. piece_named l name ≡ Some p) (sym n.few_is)
     (let w = (h.spans.within p i).0 in named_less range n.before n.after name p (omega arith) (subst (λ l. piece_named l name ≡ Some p) n.many_is e)))
+
+-- a file under another name doesn't matter
+named_beside : (file : RangeFile) (before after : List RangeFile) (name : Bytes) → is_same file.name name ≡ false → piece_named (before ++ file ∷ after) name ≡ piece_named (before ++ after) name
+named_beside file [] after name e = ap (λ b. cond b (read_range file) (piece_named after name)) e
+named_beside file (f ∷ fs) after name e = ap (cond (is_same f.name name) (read_range f)) (named_beside file fs after name e)
+
+pub manifest_beside : (s : Source) (range : RangeFile) (old new : List RangeFile) → Inserts range new old → (file : ManifestFile) → ((names : List Bytes) → file.content ≡ Some names → IsIn range.name names → ⊥) → IsHonestManifest s old file → IsHonestManifest s new file
+manifest_beside s range old new n file unlisted h =
+    manifest_kept s old new file h (λ name p j i e.
+    let other : is_same range.name name ≡ false = false_from_ne_true (is_same range.name name) (λ s. unlisted h.names h.content (subst (λ x. IsIn x h.names) (sym (same_eq range.name name s)) j)) in
+    ap (λ l. piece_named l name) n.few_is ∙ sym (ap (λ l. piece_named l name) n.many_is ∙ named_beside range n.before n.after name other) ∙ e)
 
 -- what the fields of an honest container's folder owe, one by one
 pub change_law : ChangeLaw
@@ -241,6 +253,13 @@ change_law s old new (DropRange file ranges l n e) h = subst (IsHonest s) (sym e
   ranges = each_less (IsHonestRange s) file ranges old.ranges n h.ranges;
   manifests = λ m i u. manifest_less s file old.ranges ranges n m (omega arith) (h.manifests m i u);
 })
+change_law s old new (DropUnlisted file ranges unlisted n e) h = subst (IsHonest s) (sym e) (record {
+  rising = h.rising;
+  past = h.past;
+  logs = h.logs;
+  ranges = each_less (IsHonestRange s) file ranges old.ranges n h.ranges;
+  manifests = λ m i u. manifest_beside s file old.ranges ranges n m (λ names c j. unlisted m names i c j) (h.manifests m i u);
+})
 change_law s old new (DropLog file logs n e) h = subst (IsHonest s) (sym e) (record {
   rising = h.rising;
   past = h.past;
@@ -258,7 +277,7 @@ change_law s old new (DropManifest file manifests n e) h = subst (IsHonest s) (s
 
 -- ---- the life of a container
 
-always_honest : {s : Source} {folder : Folder} → Reaches s folder → IsHonest s folder
+pub always_honest : {s : Source} {folder : Folder} → Reaches s folder → IsHonest s folder
 always_honest (Opens s rising past) = record {
   rising = rising;
   past = past;

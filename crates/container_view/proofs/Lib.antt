@@ -11,6 +11,7 @@ pub mod Lists
 pub mod Files
 pub mod Stores
 pub mod Honest
+pub mod Lookups
 pub mod Decimal
 pub mod Names
 pub mod Stripped

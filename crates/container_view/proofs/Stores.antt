@@ -97,7 +97,7 @@ module _ (container : Bytes) where
 
 module _ (g : Grammars) where
   -- the folder with a given unreliable end
-  abbrev made : List File → ℕ → Folder
+  abbrev pub made : List File → ℕ → Folder
   made files end = record { ranges = range_files g files; logs = log_files g files; manifests = manifest_files g files; unreliable = end }
 
   abbrev range_of : File → List RangeFile

@@ -1,7 +1,8 @@
 -- What may happen to a container: its source grows, and files come and go one at a time.
-use Rattle.std.specs.Prelude.{◌≡◌, ℕ, ◌<◌, ◌≤◌, false, List, [], ◌∷◌, ◌++◌}
+use Rattle.std.specs.Prelude.{◌≡◌, ℕ, ◌<◌, ◌≤◌, false, List, [], ◌∷◌, ◌++◌, Some}
 use Rattle.std.specs.List.{AllByRecursion}
-use Rattle.fb_bytes.specs.Bytes.{is_same}
+use Rattle.fb_bytes.specs.Bytes.{Bytes, is_same}
+use Rattle.fb_bytes.specs.Options.{IsIn}
 use Rattle.mutations.specs.declared.Entry.{Entry}
 use Rattle.mutations.specs.Histories.{IsRising}
 use Rattle.container_view.specs.Folder.{RangeFile, LogFile, ManifestFile, Folder}
@@ -24,6 +25,10 @@ pub record Grows (old new : Source) : Type 0 where
   pub ranges : new.ranges ≡ old.ranges
   pub block : new.block ≡ old.block
 
+-- no manifest of the folder lists the name
+abbrev pub IsListedNowhere : Folder → Bytes → Type 0
+IsListedNowhere folder name = (m : ManifestFile) (names : List Bytes) → IsIn m folder.manifests → m.content ≡ Some names → IsIn name names → ⊥
+
 -- one step on the files, while the source stands still
 pub data Changes (s : Source) (old new : Folder) : Type 0 where
   -- a range file under a name that no range file has
@@ -34,6 +39,8 @@ pub data Changes (s : Source) (old new : Folder) : Type 0 where
   Raise : (end : ℕ) → old.unreliable ≤ end → new ≡ record old { unreliable = end } → Changes s old new
   -- a range file below the unreliable end
   DropRange : (file : RangeFile) (ranges : List RangeFile) → file.version < old.unreliable → Inserts file ranges old.ranges → new ≡ record old { ranges = ranges } → Changes s old new
+  -- a range file that no manifest lists
+  DropUnlisted : (file : RangeFile) (ranges : List RangeFile) → IsListedNowhere old file.name → Inserts file ranges old.ranges → new ≡ record old { ranges = ranges } → Changes s old new
   DropLog : (file : LogFile) (logs : List LogFile) → Inserts file logs old.logs → new ≡ record old { logs = logs } → Changes s old new
   DropManifest : (file : ManifestFile) (manifests : List ManifestFile) → Inserts file manifests old.manifests → new ≡ record old { manifests = manifests } → Changes s old new
 

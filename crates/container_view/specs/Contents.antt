@@ -1,5 +1,5 @@
 -- What a container's files say, by the grammars of their bytes.
-use Rattle.std.specs.Prelude.{◌≡◌, ℕ, ◌<◌, ◌^◌, List, Option, Some, option_map}
+use Rattle.std.specs.Prelude.{◌≡◌, ℕ, ◌<◌, ◌^◌, List, Some, option_map}
 use Rattle.fb_bytes.specs.Bytes.{Bytes}
 use Rattle.fb_bytes.specs.declared.Pair.{Pair}
 use Rattle.fb_bytes.specs.Pairs.{AreRising}

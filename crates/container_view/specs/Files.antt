@@ -1,6 +1,6 @@
 -- The folder that a store's files spell.
-use Rattle.std.specs.Prelude.{ℕ, List, [], ◌∷◌, ◌++◌, Option, Some, None}
-use Rattle.std.specs.List.{flat_map}
+use Rattle.std.specs.Prelude.{ℕ, Bool, not, ◌==◌, List, [], ◌∷◌, ◌++◌, Option, Some, None}
+use Rattle.std.specs.List.{list_all, flat_map}
 use Rattle.fb_bytes.specs.Bytes.{Bytes}
 use Rattle.fb_bytes.specs.Options.{◌>>=◌}
 use Rattle.mutations.specs.declared.Batch.{Batch}
@@ -26,6 +26,10 @@ whole_name container name = (container ++ 47 ∷ []) ++ name
 -- the name in the container, where the file is in it
 abbrev pub name_in : Bytes → Bytes → Option Bytes
 name_in container name = after (container ++ 47 ∷ []) name
+
+-- no slash in it, as in a container's name of one part
+abbrev pub has_no_slash : Bytes → Bool
+has_no_slash name = list_all (λ byte. not (byte == 47)) name
 
 abbrev pub renamed : Option Bytes → Bytes → List File
 renamed None bytes = []

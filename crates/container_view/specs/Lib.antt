@@ -12,5 +12,6 @@ pub mod Property
 pub mod Files
 pub mod Contents
 pub mod Stores
+pub mod Lookups
 pub mod Honest
 pub mod Names

@@ -7,6 +7,7 @@ ghost use Rattle.container_view.specs.Choices.{ChainLaw, ChosenLaw};
 ghost use Rattle.container_view.specs.Contents.{ContentsLaw};
 ghost use Rattle.container_view.specs.Honest.{HonestStoreLaw};
 ghost use Rattle.container_view.specs.Law.{ContainerLaw};
+ghost use Rattle.container_view.specs.Lookups.{FileLaw};
 ghost use Rattle.container_view.specs.Names.{NamesLaw};
 ghost use Rattle.container_view.specs.Property.{PropertyLaw};
 ghost use Rattle.container_view.specs.Restore.{RestoreLaw, RestoredLaw};
@@ -70,6 +71,11 @@ pub fn restored_law()
 /// What a step on a store's files does to the folder of a container.
 pub fn store_law()
     ensures { StoreLaw }
+{}
+
+/// What is found in a store's files after puts and deletions, and in which container it stands.
+pub fn file_law()
+    ensures { FileLaw }
 {}
 
 /// A property file holds a number exactly where it is the number's decimal text, at most 2^62.

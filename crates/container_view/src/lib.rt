@@ -9,13 +9,13 @@ mod view;
 
 pub use chaining::{Link, Links, chain};
 pub use laws::{
-    bounds_law, chain_law, change_law, chosen_law, container_law, contents_law, given_law,
-    growth_law, honest_store_law, life_law, names_law, property_law, reach_law, restore_law,
-    restored_law, store_law,
+    bounds_law, chain_law, change_law, chosen_law, container_law, contents_law, file_law,
+    given_law, growth_law, honest_store_law, life_law, names_law, property_law, reach_law,
+    restore_law, restored_law, store_law,
 };
 pub use property::read_property;
 pub use versions::{Bounds, manifest_for, restorable};
-pub use view::{FileFault, ViewFault, get_property, list_names};
+pub use view::{FileFault, ViewFault, get_property, list_names, whole_name};
 
 #[cfg(test)]
 mod tests;

@@ -129,8 +129,8 @@ fn is_named(names: &Names, name: &str) -> bool
     false
 }
 
-/// The whole name of a container's file.
-fn whole_name(alloc: Global, container: &Text, name: &str) -> Result<Text, AllocError>
+/// The whole name of a container's file: the container, a slash, and the name in it.
+pub fn whole_name(alloc: Global, container: &Text, name: &str) -> Result<Text, AllocError>
     ensures { IfOk result (λ whole. whole ≡ whole_name container.now name.now) }
 {
     let container = container.as_str();

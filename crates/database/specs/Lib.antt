@@ -1,2 +1,6 @@
 pub mod Faults
+pub mod Logs
 pub mod Commits
+pub mod Dumps
+pub mod Kept
+pub mod Laws

@@ -18,6 +18,9 @@ pub enum CommitFault {
     TooLarge { bytes: u128 },
     /// There is no version left; `version` is the newest.
     VersionsSpent { version: u64 },
+    /// A job that logs would log 2^32 mutation bytes or more at once; it is their number for the job
+    /// with the least number. A count of more than `u128::MAX` stops there.
+    LogTooLarge { bytes: u128 },
     /// There was no memory for the entry.
     NoMemory,
 }

@@ -4,3 +4,4 @@ mod Printing
 mod Places
 mod Unions
 mod Separate
+mod Joined

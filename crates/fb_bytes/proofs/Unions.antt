@@ -5,7 +5,7 @@ use Rattle.std.proofs.lemmas.List.{take_more, take_all}
 use Rattle.std.proofs.lemmas.List.Recursion.{or_at, or_push}
 use Rattle.fb_bytes.specs.Bytes.{Bytes, is_below}
 use Rattle.fb_bytes.specs.Keys.{KeyRange, holds, in_ranges, is_backwards, is_past_user, user_end, BeginPast, AreSeparate, AreRanges}
-use Rattle.fb_bytes.specs.Joining.{hull, AreUser, Joins}
+use Rattle.fb_bytes.specs.Joining.{hull, with_range, AreUser, Joins}
 use Rattle.fb_bytes.proofs.Places.{Sound}
 use Rattle.fb_bytes.proofs.Order.{below_trans, below_up, below_down, not_both}
 
@@ -94,15 +94,7 @@ holds-hull a b key h g =
 
 -- ---- one range more
 
--- joined with each range that it overlaps or touches, and else put where it belongs
-abbrev pub with_range : KeyRange → List KeyRange → List KeyRange
-with_range new [] = new ∷ []
-with_range new (next ∷ ranges) =
-    if is_below next.end new.begin then next ∷ with_range new ranges
-    else if is_below new.end next.begin then new ∷ with_range next ranges
-    else with_range (hull new next) ranges
-
-in_ranges-with_range : (new : KeyRange) (ranges : List KeyRange) (key : Bytes) → in_ranges (with_range new ranges) key ≡ (holds new key || in_ranges ranges key)
+pub in_ranges-with_range : (new : KeyRange) (ranges : List KeyRange) (key : Bytes) → in_ranges (with_range new ranges) key ≡ (holds new key || in_ranges ranges key)
 in_ranges-with_range new [] key = refl
 in_ranges-with_range new (next ∷ ranges) key =
     cond_both (is_below next.end new.begin) _ _ Same
@@ -161,7 +153,7 @@ begins_past p new (next ∷ ranges) h b s =
     (cond_both (is_below next.begin new.begin) next.begin new.begin (λ x. is_below p x ≡ true) (λ t. b) (λ n. h))
     (past_next p next ranges b s) s.2))
 
-separate-with_range : (new : KeyRange) (ranges : List KeyRange) → is_backwards new ≡ false → AreSeparate ranges → AreSeparate (with_range new ranges)
+pub separate-with_range : (new : KeyRange) (ranges : List KeyRange) → is_backwards new ≡ false → AreSeparate ranges → AreSeparate (with_range new ranges)
 separate-with_range new [] h s = (h, tt, tt)
 separate-with_range new (next ∷ ranges) h s =
     cond_both (is_below next.end new.begin) _ _ AreSeparate

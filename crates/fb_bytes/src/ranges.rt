@@ -1,6 +1,7 @@
 ghost use Rattle.std.specs.Prelude.{◌≡◌, ◌↔◌, List, [], length, position, IsTrue, None, IfOk, IsOkUnless, MatchOption};
 ghost use Rattle.fb_bytes.specs.Bytes.{Bytes};
 ghost use Rattle.fb_bytes.specs.Keys.{KeysTellRanges, AreRanges, in_ranges, is_backwards, is_past_user};
+ghost use Rattle.fb_bytes.specs.Joining as spec;
 ghost use Rattle.fb_bytes.specs.Options.{first_place};
 ghost use Rattle.fb_bytes.specs.RangeFaults.{range_fault};
 
@@ -36,6 +37,7 @@ impl Ranges {
     /// The keys of all the ranges of the list. Those that overlap or touch are joined.
     pub fn build(alloc: Global, list: &[KeyRange]) -> Result<Self, RangeFault>
         ensures union { IfOk result (λ ranges. (key : Bytes) → in_ranges ranges key ≡ in_ranges list.now key) }
+        ensures joined { IfOk result (λ ranges. ranges ≡ spec.joined list.now) }
         // A list with a fault is refused for that fault, before any memory is asked for. Any other is taken.
         ensures refused { MatchOption (range_fault list.now) (IsOkUnless result RangeFault.NoMemory) (λ fault. result ≡ Err fault) }
     {
@@ -141,6 +143,7 @@ fn first_past_user(list: &[KeyRange]) -> Option<usize>
 fn joined(alloc: Global, list: &[KeyRange]) -> Result<Vec<KeyRange>, AllocError>
     requires { range_fault list.now ≡ None }
     ensures union { IfOk result (λ ranges. (key : Bytes) → in_ranges ranges.items key ≡ in_ranges list.now key) }
+    ensures joined { IfOk result (λ ranges. ranges.items ≡ spec.joined list.now) }
     ensures ranges { IfOk result (λ ranges. AreRanges ranges.items) }
 {
     let mut ranges = Vec::new(alloc);

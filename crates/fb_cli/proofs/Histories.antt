@@ -1,5 +1,5 @@
--- What a sound end says of the report's histories.
-use Rattle.std.specs.Prelude.{◌≡◌, ℕ, zero, suc, List, [], ◌∷◌, map, Option, Some, None, slice_get, refl}
+-- What a sound end says of the report's histories and of its jobs' containers.
+use Rattle.std.specs.Prelude.{◌≡◌, ℕ, zero, suc, List, [], ◌∷◌, map, Option, Some, slice_get, refl}
 use Rattle.std.proofs.Common.{ap, sym, ◌∙◌, subst}
 use Rattle.mutations.specs.declared.Entry.{Entry}
 use Rattle.workload_text.specs.declared.ClientScript.{ClientScript}
@@ -8,14 +8,18 @@ use Rattle.workload_text.specs.declared.Workload.{Workload}
 use Rattle.client_core.specs.declared.Outcome.{Outcome}
 use Rattle.client_core.specs.Clients.{ClientState}
 use Rattle.client_core.specs.Legal.{entries_by, IsLegal}
-use Rattle.cluster_core.specs.State.{State, on_side, client_at, opening}
-use Rattle.cluster_core.specs.Sound.{IsOrdered, other_side, IsClientSound, scripts_of, Sound}
+use Rattle.cluster_core.specs.State.{State, on_side, opening}
+use Rattle.cluster_core.specs.Sound.{IsOrdered, other_side, IsClientSound, Sound}
+use Rattle.cluster_core.specs.Jobs.{Job, JobTold, job_told}
+use Rattle.cluster_core.specs.Laws.{FaithfulLaw}
+use Rattle.container_view.specs.Contents.{file_grammars}
+use Rattle.container_view.specs.Honest.{IsFaithfulStore}
 use Rattle.report_text.specs.declared.RunReport.{RunReport}
 use Rattle.fb_outside.specs.declared.File.{File}
 use Rattle.workload_text.specs.declared.ScheduleLine.{ScheduleLine}
-use Rattle.cluster_core.specs.Step.{Run}
 use Rattle.report_text.specs.declared.EventLine.{EventLine}
-use Rattle.fb_cli.specs.Runs.{turns_of, TellsRun, HasHistory}
+use Rattle.fb_cli.specs.Runs.{Tells, HasHistory, AreFaithful, IsRun}
+use Rattle.fb_cli.proofs.Kept.{kept_elsewhere}
 
 -- the client of a script that stands in the list of scripts
 record Found (clients : List ClientState) (place : ℕ) (script : ClientScript) : Type 0 where
@@ -39,8 +43,8 @@ outcomes_at (c ∷ cs) (suc n) client outcomes h e = outcomes_at cs n client out
 abbrev Says : ℕ → ClientScript → List Outcome → List Entry → List Entry → Type 0
 Says place script outcomes src dst = IsLegal (suc place) script.txns outcomes (on_side script.side src dst) × (entries_by (suc place) (on_side (other_side script.side) src dst) ≡ [])
 
-each_client : (scripts : List ClientScript) (w : State) (place : ℕ) (script : ClientScript) (outcomes : List Outcome) → Sound scripts w → slice_get scripts place ≡ Some script → slice_get (map (λ (client : ClientState). client.outcomes) w.clients) place ≡ Some outcomes → Says place script outcomes w.src w.dst
-each_client scripts w place script outcomes h s o =
+each_client : (p : Workload) (w : State) (place : ℕ) (script : ClientScript) (outcomes : List Outcome) → Sound p w → slice_get p.clients place ≡ Some script → slice_get (map (λ (client : ClientState). client.outcomes) w.clients) place ≡ Some outcomes → Says place script outcomes w.src w.dst
+each_client p w place script outcomes h s o =
     let f : Found w.clients place script = find_client w.clients place script (ap (λ (xs : List ClientScript). slice_get xs place) h.scripts_are ∙ s) in
     let k : IsClientSound w.src w.dst (suc place) f.client = h.clients (suc place) f.client f.at in
     let told : f.client.outcomes ≡ outcomes = outcomes_at w.clients place f.client outcomes f.at o in
@@ -48,27 +52,72 @@ each_client scripts w place script outcomes h s o =
     subst (λ (os : List Outcome). P script os) told (subst (λ (x : ClientScript). P x f.client.outcomes) f.script_is (k.legal, k.apart))
 
 -- a report of a sound state has its histories right
-pub has_history : (workload : Workload) (w : State) (report : RunReport) → Sound workload.clients w → report.src ≡ w.src → report.dst ≡ w.dst → report.outcomes ≡ map (λ (client : ClientState). client.outcomes) w.clients → report.end ≡ w.time → HasHistory workload report
+has_history : (workload : Workload) (w : State) (report : RunReport) → Sound workload w → report.src ≡ w.src → report.dst ≡ w.dst → report.outcomes ≡ map (λ (client : ClientState). client.outcomes) w.clients → report.end ≡ w.time → HasHistory workload report
 has_history workload w report h src dst outcomes end = record {
   src = subst (λ (t : ℕ). IsOrdered t report.src) (sym end) (subst (λ (xs : List Entry). IsOrdered w.time xs) (sym src) (h.histories Src));
   dst = subst (λ (t : ℕ). IsOrdered t report.dst) (sym end) (subst (λ (xs : List Entry). IsOrdered w.time xs) (sym dst) (h.histories Dst));
   clients = λ place script told s o.
       subst (λ (ys : List Entry). Says place script told report.src ys) (sym dst)
       (subst (λ (xs : List Entry). Says place script told xs w.dst) (sym src)
-      (each_client workload.clients w place script told h s (ap (λ (os : List (List Outcome)). slice_get os place) (sym outcomes) ∙ o)));
+      (each_client workload w place script told h s (ap (λ (os : List (List Outcome)). slice_get os place) (sym outcomes) ∙ o)));
 }
 
+-- ---- containers
+
+-- the job of what is told
+record FoundJob (jobs : List Job) (place : ℕ) (told : JobTold) : Type 0 where
+  job : Job
+  at : slice_get jobs place ≡ Some job
+  told_is : job_told job ≡ told
+
+find_job : (jobs : List Job) (place : ℕ) (told : JobTold) → slice_get (map job_told jobs) place ≡ Some told → FoundJob jobs place told
+find_job [] zero told h = cc
+find_job [] (suc n) told h = cc
+find_job (x ∷ xs) zero told h = record { job = x; at = refl; told_is = some_is (job_told x) told h }
+  where
+    some_is : (a b : JobTold) → Some a ≡ Some b → a ≡ b
+    some_is a b q = cc
+find_job (x ∷ xs) (suc n) told h = let f : FoundJob xs n told = find_job xs n told h in record { job = f.job; at = f.at; told_is = f.told_is }
+
+-- the container of what is told is faithful to these histories
+abbrev IsFaithfulTold : ℕ → List File → List Entry → List Entry → ℕ → JobTold → Type 0
+IsFaithfulTold block files src dst end told = IsFaithfulStore file_grammars (record { history = on_side told.side src dst; now = end; ranges = told.ranges; block = block }) told.container files
+
+-- in a sound state the containers of the report's jobs are faithful to its histories
+are_faithful : FaithfulLaw → (p : Workload) (w : State) (files' : Option (List File)) (report : RunReport) → Sound p w → report.src ≡ w.src → report.dst ≡ w.dst → report.jobs ≡ map job_told w.jobs → report.end ≡ w.time → files' ≡ w.files → AreFaithful p.settings.block files' report
+are_faithful law p w files' report h src dst jobs end stored files f place told at =
+    let j : FoundJob w.jobs place told = find_job w.jobs place told (ap (λ (js : List JobTold). slice_get js place) (sym jobs) ∙ at) in
+    let k : IsFaithfulTold p.settings.block files w.src w.dst w.time (job_told j.job) = law p w files h (sym stored ∙ f) place j.job j.at in
+    subst (λ (t : JobTold). IsFaithfulTold p.settings.block files report.src report.dst report.end t) j.told_is
+    (subst (λ (n : ℕ). IsFaithfulTold p.settings.block files report.src report.dst n (job_told j.job)) (sym end)
+    (subst (λ (ys : List Entry). IsFaithfulTold p.settings.block files report.src ys w.time (job_told j.job)) (sym dst)
+    (subst (λ (xs : List Entry). IsFaithfulTold p.settings.block files xs w.dst w.time (job_told j.job)) (sym src) k)))
+
+-- ---- the report
+
+told_by : (workload begun ended : Workload) (files files' : Option (List File)) (final : State) (report : RunReport) (schedule : List ScheduleLine) → FaithfulLaw → begun ≡ workload → Tells workload (opening workload files) report.lines final → map (λ (line : EventLine). line.line) report.lines ≡ schedule → schedule ≡ workload.schedule → ended ≡ begun → report.src ≡ final.src → report.dst ≡ final.dst → report.outcomes ≡ map (λ (client : ClientState). client.outcomes) final.clients → report.jobs ≡ map job_told final.jobs → report.end ≡ final.time → files' ≡ final.files → Sound ended final → IsRun workload files files' report
+told_by workload begun ended files files' final report schedule law b r l s e src dst outcomes jobs end stored sound =
+    let h : Sound workload final = subst (λ (x : Workload). Sound x final) (e ∙ b) sound in
+    record {
+      told = record {
+        final = final;
+        run = r;
+        schedule = l ∙ s;
+        src = src;
+        dst = dst;
+        outcomes = outcomes;
+        jobs = jobs;
+        end = end;
+        stored = stored;
+      };
+      history = has_history workload final report h src dst outcomes end;
+      faithful = are_faithful law workload final files' report h src dst jobs end stored;
+      elsewhere = kept_elsewhere workload final files files' report r jobs stored;
+    }
+
 -- a run over the whole schedule, told by its report
-pub tells : (workload begun ended : Workload) (files : Option (List File)) (old final : State) (report : RunReport) (schedule : List ScheduleLine) → begun ≡ workload → old ≡ opening workload files → Run begun.settings old (turns_of report.lines) final → map (λ (line : EventLine). line.line) report.lines ≡ schedule → schedule ≡ workload.schedule → ended ≡ begun → report.src ≡ final.src → report.dst ≡ final.dst → report.outcomes ≡ map (λ (client : ClientState). client.outcomes) final.clients → report.end ≡ final.time → Sound ended.clients final → TellsRun workload files report × HasHistory workload report
-tells workload begun ended files old final report schedule b o r l s e src dst outcomes end sound = (
-  record {
-    final = final;
-    run = subst (λ (x : Workload). Run x.settings (opening workload files) (turns_of report.lines) final) b (subst (λ (w : State). Run begun.settings w (turns_of report.lines) final) o r);
-    schedule = l ∙ s;
-    src = src;
-    dst = dst;
-    outcomes = outcomes;
-    end = end;
-  },
-  has_history workload final report (subst (λ (x : Workload). Sound x.clients final) (e ∙ b) sound) src dst outcomes end,
-)
+pub tells : (workload begun ended : Workload) (files files' : Option (List File)) (old final : State) (report : RunReport) (schedule : List ScheduleLine) → FaithfulLaw → begun ≡ workload → old ≡ opening workload files → Tells begun old report.lines final → map (λ (line : EventLine). line.line) report.lines ≡ schedule → schedule ≡ workload.schedule → ended ≡ begun → report.src ≡ final.src → report.dst ≡ final.dst → report.outcomes ≡ map (λ (client : ClientState). client.outcomes) final.clients → report.jobs ≡ map job_told final.jobs → report.end ≡ final.time → files' ≡ final.files → Sound ended final → IsRun workload files files' report
+tells workload begun ended files files' old final report schedule law b o r l s e src dst outcomes jobs end stored sound =
+    told_by workload begun ended files files' final report schedule law b
+    (subst (λ (x : Workload). Tells x (opening workload files) report.lines final) b (subst (λ (w : State). Tells begun w report.lines final) o r))
+    l s e src dst outcomes jobs end stored sound

@@ -1,4 +1,5 @@
-pub mod Histories
 pub mod Turns
+pub mod Kept
+pub mod Histories
 pub mod Texts
 pub mod Replaying

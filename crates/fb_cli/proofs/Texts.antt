@@ -1,6 +1,6 @@
 -- What reading a workload's text comes to, by what was read.
-use Rattle.std.specs.Prelude.{◌≡◌, ℕ, ◌+◌, ◌<◌, ◌≤◌, List, [], length, Option, Some, None, Result, Ok, Err, ◌⊎◌, refl}
-use Rattle.std.proofs.Common.{ap, sym, ◌∙◌, arith, subst, inl, inr, cond}
+use Rattle.std.specs.Prelude.{◌≡◌, ℕ, ◌+◌, ◌<◌, [], length, Option, Some, Result, Ok, Err, refl}
+use Rattle.std.proofs.Common.{ap, sym, arith, subst, inl, inr, cond}
 use Rattle.std.proofs.lemmas.Bool.{lt-ltb}
 use Rattle.fb_bytes.specs.Bytes.{Bytes}
 use Rattle.fb_outside.specs.Faults.{Counts}
@@ -8,8 +8,7 @@ use Rattle.workload_text.specs.declared.Workload.{Workload}
 use Rattle.workload_text.specs.Grammar.{Built, what, built, whole, most_bytes}
 use Rattle.workload_text.specs.Lines.{numbered}
 use Rattle.workload_text.specs.Texts.{lines_of}
-use Rattle.fb_cli.specs.declared.fault.Fault.{Fault}
-use Rattle.fb_cli.specs.declared.fault.Fault.TheVariants.{SourceFault, SinkFault, NoMemory, NotBuilt}
+use Rattle.fb_cli.specs.declared.fault.Fault.TheVariants.{SourceFault, NoMemory, NotBuilt}
 use Rattle.fb_cli.specs.Replays.{SaysText, ReadsText}
 
 -- a count that isn't to have risen

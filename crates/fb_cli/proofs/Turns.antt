@@ -1,32 +1,35 @@
--- Runs, a turn at a time.
-use Rattle.std.specs.Prelude.{◌≡◌, ℕ, ◌+◌, ◌<◌, List, [], ◌∷◌, ◌++◌, map, length, take, Result, Ok, refl}
-use Rattle.std.proofs.Common.{ap, sym, ◌∙◌, subst, get_or}
+-- Runs, an event line at a time.
+use Rattle.std.specs.Prelude.{◌≡◌, ℕ, zero, suc, ◌+◌, ◌-◌, ◌<◌, ◌≤◌, List, [], ◌∷◌, ◌++◌, map, length, take, slice_get, Option, Some, None, Result, Ok, Err, ◌⊎◌, refl}
+use Rattle.std.proofs.Common.{ap, sym, ◌∙◌, arith, subst, get_or, inl, inr}
 use Rattle.std.proofs.lemmas.List.{take_more}
+use Rattle.fb_outside.specs.Faults.{Rose, Counts}
 use Rattle.workload_text.specs.declared.ScheduleLine.{ScheduleLine}
 use Rattle.workload_text.specs.declared.Workload.{Workload}
-use Rattle.workload_text.specs.declared.Settings.{Settings}
+use Rattle.cluster_core.specs.declared.Answer.{Answer}
+use Rattle.cluster_core.specs.declared.StepFault.{StepFault}
+use Rattle.cluster_core.specs.declared.StepFault.TheVariants as steps
 use Rattle.cluster_core.specs.State.{State}
-use Rattle.cluster_core.specs.Step.{Step, Turn, Run}
 use Rattle.report_text.specs.declared.EventLine.{EventLine}
-use Rattle.fb_cli.specs.Runs.{turn_of, turns_of}
+use Rattle.fb_cli.specs.declared.fault.Fault.{Fault}
+use Rattle.fb_cli.specs.declared.fault.Fault.TheVariants.{VaultFault}
+use Rattle.fb_cli.specs.Faults.{fault_of, last_fault}
+use Rattle.fb_cli.specs.Runs.{TellsStep, Tells}
+use Rattle.fb_cli.specs.Replays.{IsPlayed}
 
--- one more turn at the end of a run
-pub Run-snoc : (s : Settings) (old middle new : State) (turns : List Turn) (turn : Turn) → Run s old turns middle → Step s middle turn.event turn.answer new → Run s old (turns ++ turn ∷ []) new
-Run-snoc s old middle new [] turn r k = (new, subst (λ (w : State). Step s w turn.event turn.answer new) (sym r) k, refl)
-Run-snoc s old middle new (t ∷ ts) turn r k = (r.0, r.1, Run-snoc s r.0 middle new ts turn r.2 k)
+-- ---- one more line
 
-pub map-snoc : {X Y : Type 0} (f : X → Y) (xs : List X) (x : X) → map f (xs ++ x ∷ []) ≡ map f xs ++ f x ∷ []
+Tells-snoc : (p : Workload) (old middle new : State) (lines : List EventLine) (line : EventLine) → Tells p old lines middle → TellsStep p middle line new → Tells p old (lines ++ line ∷ []) new
+Tells-snoc p old middle new [] line r k = (new, subst (λ (w : State). TellsStep p w line new) (sym r) k, refl)
+Tells-snoc p old middle new (l ∷ ls) line r k = (r.0, r.1, Tells-snoc p r.0 middle new ls line r.2 k)
+
+map-snoc : {X Y : Type 0} (f : X → Y) (xs : List X) (x : X) → map f (xs ++ x ∷ []) ≡ map f xs ++ f x ∷ []
 map-snoc f [] x = refl
 map-snoc f (y ∷ ys) x = ap (λ zs. f y ∷ zs) (map-snoc f ys x)
 
--- one more event line
-pub turns-snoc : (s : Settings) (old middle new : State) (lines : List EventLine) (line : EventLine) → Run s old (turns_of lines) middle → Step s middle (turn_of line).event (turn_of line).answer new → Run s old (turns_of (lines ++ line ∷ [])) new
-turns-snoc s old middle new lines line r k = subst (λ (ts : List Turn). Run s old ts new) (sym (map-snoc turn_of lines line)) (Run-snoc s old middle new (turns_of lines) (turn_of line) r k)
-
--- the same where the longer list has a name, and the step was made with settings of a name
-pub run_more : (s t : Settings) (old middle new : State) (lines all : List EventLine) (line : EventLine) → all ≡ lines ++ line ∷ [] → t ≡ s → Run s old (turns_of lines) middle → Step t middle (turn_of line).event (turn_of line).answer new → Run s old (turns_of all) new
-run_more s t old middle new lines all line a e r k =
-    subst (λ (xs : List EventLine). Run s old (turns_of xs) new) (sym a) (turns-snoc s old middle new lines line r (subst (λ (x : Settings). Step x middle (turn_of line).event (turn_of line).answer new) e k))
+-- the same where the longer list has a name, and the step was made of a workload of a name
+pub run_more : (p q : Workload) (old middle new : State) (lines all : List EventLine) (line : EventLine) → all ≡ lines ++ line ∷ [] → q ≡ p → Tells p old lines middle → TellsStep q middle line new → Tells p old all new
+run_more p q old middle new lines all line a e r k =
+    subst (λ (xs : List EventLine). Tells p old xs new) (sym a) (Tells-snoc p old middle new lines line r (subst (λ (x : Workload). TellsStep x middle line new) e k))
 
 -- the schedule's lines so far
 pub lines_more : (lines all : List EventLine) (told : EventLine) (schedule : List ScheduleLine) (i : ℕ) (d : ScheduleLine) → all ≡ lines ++ told ∷ [] → map (λ (line : EventLine). line.line) lines ≡ take i schedule → i < length schedule → told.line ≡ get_or schedule i d → map (λ (line : EventLine). line.line) all ≡ take (i + 1) schedule
@@ -36,3 +39,67 @@ lines_more lines all told schedule i d a h lt e =
     ∙ ap (λ (xs : List ScheduleLine). xs ++ told.line ∷ []) h
     ∙ ap (λ (x : ScheduleLine). take i schedule ++ x ∷ []) e
     ∙ sym (take_more schedule i d lt)
+
+-- ---- the last answer
+
+-- the refusal of an event line, where there is one
+abbrev fault_at : Option EventLine → Option Fault
+fault_at None = None
+fault_at (Some line) = fault_of line.answer
+
+last_is : (lines : List EventLine) → fault_at (slice_get lines (length lines - 1)) ≡ last_fault lines
+last_is [] = refl
+last_is (line ∷ []) = refl
+last_is (line ∷ next ∷ rest) =
+    ap (λ (n : ℕ). fault_at (slice_get (line ∷ next ∷ rest) n)) (let e : length (line ∷ next ∷ rest) - 1 ≡ suc (length (next ∷ rest) - 1) = omega arith in e)
+    ∙ last_is (next ∷ rest)
+
+pub some_last : (lines : List EventLine) (line : EventLine) → slice_get lines (length lines - 1) ≡ Some line → fault_of line.answer ≡ last_fault lines
+some_last lines line e = ap fault_at (sym e) ∙ last_is lines
+
+last-snoc : (lines : List EventLine) (line : EventLine) → last_fault (lines ++ line ∷ []) ≡ fault_of line.answer
+last-snoc [] line = refl
+last-snoc (x ∷ []) line = refl
+last-snoc (x ∷ y ∷ ys) line = last-snoc (y ∷ ys) line
+
+-- an answer but want of memory ends no replay before its end
+played_answer : (answer : Result Answer StepFault) → (answer ≡ Err steps.NoMemory → ⊥) → IsPlayed (fault_of answer)
+played_answer (Ok answer) h = tt
+played_answer (Err steps.VaultFault) h = tt
+played_answer (Err (steps.VersionsSpent version)) h = tt
+played_answer (Err steps.NoMemory) h = absurd (h refl)
+
+-- a run that is told was played to its end
+played_lines : (p : Workload) (old new : State) (lines : List EventLine) → Tells p old lines new → IsPlayed (last_fault lines)
+played_lines p old new [] r = tt
+played_lines p old new (line ∷ []) r = let k = r.1 in played_answer line.answer k.memory
+played_lines p old new (line ∷ next ∷ rest) r = played_lines p r.0 new (next ∷ rest) r.2
+
+-- and its refusal is that of a replay which was played
+pub played_fault : (p : Workload) (old new : State) (lines all : List EventLine) (fault : Option Fault) → Tells p old lines new → all ≡ lines → fault ≡ last_fault all → IsPlayed fault
+played_fault p old new lines all fault r a f = subst IsPlayed (sym (f ∙ ap last_fault a)) (played_lines p old new lines r)
+
+pub same_last : (lines all : List EventLine) (fault found : Option Fault) → all ≡ lines → fault ≡ last_fault all → fault ≡ found → last_fault lines ≡ found
+same_last lines all fault found a f e = ap last_fault (sym a) ∙ sym f ∙ e
+
+-- ---- counts over two calls
+
+less_or_same : (a b : ℕ) → a ≤ b → (a < b) ⊎ (a ≡ b)
+less_or_same zero zero h = inr refl
+less_or_same zero (suc b) h = inl (omega arith)
+less_or_same (suc a) zero h = absurd (omega arith)
+less_or_same (suc a) (suc b) h = elim (less_or_same a b (omega arith)) [ inl l ↦ inl (omega arith) | inr e ↦ inr (ap suc e) ]
+
+rose_before : (a b c : ℕ) → a ≤ b → b ≤ c → Rose b c → Rose a c
+rose_before a b c h k r =
+    elim r [
+      | inl l ↦ inl (omega arith)
+      | inr e ↦ elim (less_or_same a b h) [ inl l ↦ inl (omega arith) | inr s ↦ inr (s ∙ e) ]
+    ]
+
+-- the last step rose where it failed, and so did the whole run
+pub rose_more : (a b c : ℕ) (lines all : List EventLine) (line : EventLine) → all ≡ lines ++ line ∷ [] → a ≤ b → Counts b c (fault_of line.answer ≡ Some VaultFault) → last_fault all ≡ Some VaultFault → Rose a c
+rose_more a b c lines all line e h k q = rose_before a b c h k.later (k.rose (sym (last-snoc lines line) ∙ ap last_fault (sym e) ∙ q))
+
+pub later_more : (a b c : ℕ) (Q : Type 0) → a ≤ b → Counts b c Q → a ≤ c
+later_more a b c Q h k = let l = k.later in omega arith

@@ -1,14 +1,20 @@
 -- The refusals of a command: their statuses and their lines.
-use Rattle.std.specs.Prelude.{ℕ, List, [], ◌++◌, Option, Some, None, codes, decimal}
+use Rattle.std.specs.Prelude.{ℕ, List, [], ◌∷◌, ◌++◌, Option, Some, None, Result, Ok, Err, codes, decimal}
 use Rattle.fb_bytes.specs.Bytes.{Bytes}
+use Rattle.cluster_core.specs.declared.Answer.{Answer}
+use Rattle.cluster_core.specs.declared.StepFault.{StepFault}
+use Rattle.cluster_core.specs.declared.StepFault.TheVariants as steps
+use Rattle.report_text.specs.declared.EventLine.{EventLine}
 use Rattle.fb_cli.specs.declared.fault.Fault.{Fault}
-use Rattle.fb_cli.specs.declared.fault.Fault.TheVariants.{SourceFault, SinkFault, NoMemory, NotBuilt}
+use Rattle.fb_cli.specs.declared.fault.Fault.TheVariants.{SourceFault, SinkFault, VaultFault, VersionsSpent, NoMemory, NotBuilt}
 
 -- the status that a command ends with
 abbrev pub status_of : Option Fault → ℕ
 status_of None = 0
 status_of (Some SourceFault) = 3
 status_of (Some SinkFault) = 4
+status_of (Some VaultFault) = 5
+status_of (Some (VersionsSpent version)) = 10
 status_of (Some NoMemory) = 12
 status_of (Some (NotBuilt line)) = 15
 
@@ -17,5 +23,20 @@ abbrev pub refusal_line : Option Fault → Bytes
 refusal_line None = []
 refusal_line (Some SourceFault) = codes "refused source-fault\n"
 refusal_line (Some SinkFault) = []
+refusal_line (Some VaultFault) = codes "refused vault-fault\n"
+refusal_line (Some (VersionsSpent version)) = codes "refused versions-spent " ++ decimal version ++ codes "\n"
 refusal_line (Some NoMemory) = []
 refusal_line (Some (NotBuilt line)) = codes "refused not-built " ++ decimal line ++ codes "\n"
+
+-- the refusal of a command whose last step was answered so
+abbrev pub fault_of : Result Answer StepFault → Option Fault
+fault_of (Ok answer) = None
+fault_of (Err steps.VaultFault) = Some VaultFault
+fault_of (Err (steps.VersionsSpent version)) = Some (VersionsSpent version)
+fault_of (Err steps.NoMemory) = Some NoMemory
+
+-- the refusal by the answer of the last event; the answers before it have no say
+abbrev pub last_fault : List EventLine → Option Fault
+last_fault [] = None
+last_fault (line ∷ []) = fault_of line.answer
+last_fault (line ∷ next ∷ rest) = last_fault (next ∷ rest)

@@ -1,5 +1,5 @@
 -- What a replay comes to.
-use Rattle.std.specs.Prelude.{◌≡◌, ℕ, ◌≤◌, List, [], length, Option, Some, None, Result, Ok, Err, ◌⊎◌, IsSome, IfSome, ◌↔◌}
+use Rattle.std.specs.Prelude.{◌≡◌, ℕ, ◌≤◌, List, [], length, Option, Some, None, Result, Ok, Err, ◌⊎◌, is_some, IsSome, IfSome, ◌↔◌}
 use Rattle.fb_bytes.specs.Bytes.{Bytes}
 use Rattle.fb_outside.specs.declared.File.{File}
 use Rattle.fb_outside.specs.Faults.{Counts}
@@ -7,12 +7,22 @@ use Rattle.workload_text.specs.declared.Workload.{Workload}
 use Rattle.workload_text.specs.Grammar.{Built, what, built, most_bytes}
 use Rattle.report_text.specs.declared.Report.{Report}
 use Rattle.fb_cli.specs.declared.fault.Fault.{Fault}
-use Rattle.fb_cli.specs.declared.fault.Fault.TheVariants.{SourceFault, SinkFault, NoMemory, NotBuilt}
-use Rattle.fb_cli.specs.Runs.{IsRunReport}
+use Rattle.fb_cli.specs.declared.fault.Fault.TheVariants.{SourceFault, SinkFault, VaultFault, VersionsSpent, NoMemory, NotBuilt}
+use Rattle.fb_cli.specs.Runs.{IsRunReport, fault_in}
 
--- What a text is answered: a text that is built has no refusal, another one names its first line that isn't; want of memory may stand in place of either.
+-- The schedule was played to its end: there is no refusal but one of its last step.
+abbrev pub IsPlayed : Option Fault → Type 0
+IsPlayed None = Unit {0}
+IsPlayed (Some SourceFault) = ⊥
+IsPlayed (Some SinkFault) = ⊥
+IsPlayed (Some VaultFault) = Unit {0}
+IsPlayed (Some (VersionsSpent version)) = Unit {0}
+IsPlayed (Some NoMemory) = ⊥
+IsPlayed (Some (NotBuilt line)) = ⊥
+
+-- What a text is answered: one that is built is played, another one names its first line that isn't; want of memory may stand in place of either.
 abbrev pub AnswersText : Result Built ℕ → Option Fault → Type 0
-AnswersText (Ok what) fault = (fault ≡ None) ⊎ (fault ≡ Some NoMemory)
+AnswersText (Ok what) fault = IsPlayed fault ⊎ (fault ≡ Some NoMemory)
 AnswersText (Err line) fault = (fault ≡ Some (NotBuilt line)) ⊎ (fault ≡ Some NoMemory)
 
 -- the source had all its bytes read
@@ -20,6 +30,8 @@ abbrev pub ReadsAll : Option Fault → Type 0
 ReadsAll None = Unit {0}
 ReadsAll (Some SourceFault) = ⊥
 ReadsAll (Some SinkFault) = ⊥
+ReadsAll (Some VaultFault) = Unit {0}
+ReadsAll (Some (VersionsSpent version)) = Unit {0}
 ReadsAll (Some NoMemory) = ⊥
 ReadsAll (Some (NotBuilt line)) = Unit {0}
 
@@ -28,14 +40,28 @@ abbrev pub IsOfReplay : Option Fault → Type 0
 IsOfReplay None = Unit {0}
 IsOfReplay (Some SourceFault) = Unit {0}
 IsOfReplay (Some SinkFault) = ⊥
+IsOfReplay (Some VaultFault) = Unit {0}
+IsOfReplay (Some (VersionsSpent version)) = Unit {0}
 IsOfReplay (Some NoMemory) = Unit {0}
 IsOfReplay (Some (NotBuilt line)) = Unit {0}
 
--- A replay of what a source has left, over a store with these files. `left` and `left'` are what the source tells before and after, `faults` and `faults'` its counts.
-pub record Replays (left left' : Option Bytes) (faults faults' : ℕ) (files : Option (List File)) (report : Option Report) (fault : Option Fault) : Type 0 where
-  -- a report comes exactly without a refusal, and tells a run of the workload that the text is
-  pub reported : IsSome report ↔ (fault ≡ None)
-  pub run : IfSome report (λ r. (workload : Workload) × ((bytes : Bytes) → left ≡ Some bytes → built bytes ≡ Ok (what workload)) × IsRunReport workload files r)
+-- no step was made
+abbrev pub IsUnplayed : Option Fault → Type 0
+IsUnplayed None = ⊥
+IsUnplayed (Some SourceFault) = Unit {0}
+IsUnplayed (Some SinkFault) = ⊥
+IsUnplayed (Some VaultFault) = ⊥
+IsUnplayed (Some (VersionsSpent version)) = ⊥
+IsUnplayed (Some NoMemory) = ⊥
+IsUnplayed (Some (NotBuilt line)) = Unit {0}
+
+-- A replay of what a source has left. `left` and `left'` are what the source tells before and after, `faults` and `faults'` its counts, `files` and `files'` what the file store tells.
+pub record Replays (left left' : Option Bytes) (faults faults' : ℕ) (files files' : Option (List File)) (report : Option Report) (fault : Option Fault) : Type 0 where
+  -- a report comes exactly where the schedule was played, and tells a run of the workload that the text is
+  pub reported : IsSome report ↔ IsPlayed fault
+  pub run : IfSome report (λ r. (workload : Workload) × ((bytes : Bytes) → left ≡ Some bytes → built bytes ≡ Ok (what workload)) × IsRunReport workload files files' r)
+  -- its last event alone says the refusal
+  pub last : IfSome report (λ r. fault ≡ fault_in r)
   -- each refusal has its cause
   pub kind : IsOfReplay fault
   pub answer : (bytes : Bytes) → left ≡ Some bytes → (fault ≡ Some SourceFault) ⊎ AnswersText (built bytes) fault
@@ -43,10 +69,18 @@ pub record Replays (left left' : Option Bytes) (faults faults' : ℕ) (files : O
   -- a text that isn't too long was read to its end
   pub read : (bytes : Bytes) → left ≡ Some bytes → length bytes ≤ most_bytes → ReadsAll fault → left' ≡ Some []
 
+-- What a command leaves of the file store. `files` and `files'` are what it tells before and after, `faults` and `faults'` its counts.
+pub record Leaves (files files' : Option (List File)) (faults faults' : ℕ) (fault : Option Fault) : Type 0 where
+  -- one that tells its files goes on telling, and one that doesn't goes on not telling
+  pub telling : is_some files' ≡ is_some files
+  pub count : Counts faults faults' (fault ≡ Some VaultFault)
+  -- where no step was made it is as it was
+  pub same : IsUnplayed fault → (files' ≡ files) × (faults' ≡ faults)
+
 -- the refusal of a result
-abbrev pub fault_in : Result Workload Fault → Option Fault
-fault_in (Ok workload) = None
-fault_in (Err fault) = Some fault
+abbrev pub fault_of_read : Result Workload Fault → Option Fault
+fault_of_read (Ok workload) = None
+fault_of_read (Err fault) = Some fault
 
 -- the result is what the text says
 abbrev pub SaysText : Result Built ℕ → Result Workload Fault → Type 0
@@ -55,9 +89,19 @@ SaysText (Err line) (Err fault) = fault ≡ NotBuilt line
 SaysText (Ok built) (Err fault) = ⊥
 SaysText (Err line) (Ok workload) = ⊥
 
+-- no fault of a step, since no step is made yet
+abbrev pub IsOfReading : Option Fault → Type 0
+IsOfReading None = Unit {0}
+IsOfReading (Some SourceFault) = Unit {0}
+IsOfReading (Some SinkFault) = ⊥
+IsOfReading (Some VaultFault) = ⊥
+IsOfReading (Some (VersionsSpent version)) = ⊥
+IsOfReading (Some NoMemory) = Unit {0}
+IsOfReading (Some (NotBuilt line)) = Unit {0}
+
 -- What reading the text of a workload comes to.
 pub record ReadsText (left left' : Option Bytes) (faults faults' : ℕ) (result : Result Workload Fault) : Type 0 where
   pub answer : (bytes : Bytes) → left ≡ Some bytes → (result ≡ Err SourceFault) ⊎ ((result ≡ Err NoMemory) ⊎ SaysText (built bytes) result)
-  pub kind : IsOfReplay (fault_in result)
+  pub kind : IsOfReading (fault_of_read result)
   pub count : Counts faults faults' (result ≡ Err SourceFault)
-  pub read : (bytes : Bytes) → left ≡ Some bytes → length bytes ≤ most_bytes → ReadsAll (fault_in result) → left' ≡ Some []
+  pub read : (bytes : Bytes) → left ≡ Some bytes → length bytes ≤ most_bytes → ReadsAll (fault_of_read result) → left' ≡ Some []

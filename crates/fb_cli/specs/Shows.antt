@@ -1,5 +1,5 @@
 -- Which words are a command, and what a command writes.
-use Rattle.std.specs.Prelude.{◌≡◌, ℕ, Bool, true, false, List, [], ◌∷◌, ◌++◌, Option, Some, None, codes, ◌⊎◌, MatchBool}
+use Rattle.std.specs.Prelude.{◌≡◌, ℕ, Bool, false, List, [], ◌∷◌, ◌++◌, Option, Some, None, codes, ◌⊎◌, MatchBool}
 use Rattle.fb_bytes.specs.Bytes.{Bytes, is_same}
 use Rattle.fb_outside.specs.declared.File.{File}
 use Rattle.fb_outside.specs.Contents.{IsFrontOf}
@@ -25,8 +25,8 @@ pub record Unread (left left' : Option Bytes) (faults faults' : ℕ) (report : O
   pub count : faults' ≡ faults
 
 -- what the command that the words name comes to
-abbrev pub Commands : List Bytes → Option Bytes → Option Bytes → ℕ → ℕ → Option (List File) → Option Report → Option Fault → Type 0
-Commands words left left' faults faults' files report fault = MatchBool (is_replay words) (Replays left left' faults faults' files report fault) (Unread left left' faults faults' report fault)
+abbrev pub Commands : List Bytes → Option Bytes → Option Bytes → ℕ → ℕ → Option (List File) → Option (List File) → Option Report → Option Fault → Type 0
+Commands words left left' faults faults' files files' report fault = MatchBool (is_replay words) (Replays left left' faults faults' files files' report fault) (Unread left left' faults faults' report fault)
 
 abbrev pub report_part : Option Report → Bytes
 report_part None = []

@@ -1,18 +1,16 @@
-ghost use Rattle.std.specs.Prelude.{◌≡◌, Option, Some, None, [], ◌∷◌, ◌++◌, map, Ok, Err, ◌≤◌, length, IfOk, IfErr, IfSome, IsSome, OnOk, OnErr, ◌↔◌, ◌⊎◌};
-ghost use Rattle.fb_bytes.specs.Bytes.{Bytes};
-ghost use Rattle.fb_outside.specs.Faults.{Counts};
-ghost use Rattle.workload_text.specs.Grammar.{what, built, most_bytes};
-ghost use Rattle.cluster_core.specs.Step.{Step, Run};
+ghost use Rattle.std.specs.Prelude.{◌≡◌, ◌≤◌, Option, Some, None, Ok, Err, map, is_some, IfOk, IfSome, IsSome, IsErrOf, IsTrue, ◌↔◌, ◌⊎◌};
+ghost use Rattle.fb_outside.specs.Faults.{Counts, Rose};
+ghost use Rattle.cluster_core.specs.declared.StepFault.TheVariants.{NoMemory};
 ghost use Rattle.report_text.specs.declared.EventLine.{EventLine};
-ghost use Rattle.fb_cli.specs.Faults.{status_of};
-ghost use Rattle.fb_cli.specs.Runs.{event_of, turn_of, turns_of, IsRunReport};
-ghost use Rattle.fb_cli.specs.Replays.{Replays, ReadsText};
+ghost use Rattle.fb_cli.specs.Faults.{status_of, fault_of, last_fault};
+ghost use Rattle.fb_cli.specs.Runs.{event_of, command_of, next_kind, TellsStep, Tells, IsRunReport, fault_in};
+ghost use Rattle.fb_cli.specs.Replays.{IsPlayed, Replays, Leaves, ReadsText};
 
-use crate::fault::Fault;
-use cluster_core::{Event, StepFault, World};
+use crate::fault::{Fault, last_fault};
+use cluster_core::{Answer, Event, StepFault, World, faithful_law};
 use fb_bytes::Seq;
 use fb_outside::{ReadFault, Source, Vault, read_all};
-use report_text::{EventLine, Report, RunReport};
+use report_text::{CommandKind, EventLine, Report, RunReport};
 use std::alloc::{AllocError, Global};
 use workload_text::{ScheduleLine, TextFault, Workload, read_workload};
 
@@ -30,10 +28,9 @@ pub struct Ended<V> {
 
 /// Plays the workload whose text the source gives, over the files of the vault.
 pub fn replay<S: Source, V: Vault>(alloc: Global, source: &mut S, vault: V) -> Ended<V>
-    ensures replays { Replays (S.left source.old) (S.left source.new) (S.faults source.old) (S.faults source.new) (V.files vault) result.report result.fault }
+    ensures replays { Replays (S.left source.old) (S.left source.new) (S.faults source.old) (S.faults source.new) (V.files vault) (V.files result.vault) result.report result.fault }
     ensures status { result.status ≡ status_of result.fault }
-    ensures files { V.files result.vault ≡ V.files vault }
-    ensures vault_faults { V.faults result.vault ≡ V.faults vault }
+    ensures store { Leaves (V.files vault) (V.files result.vault) (V.faults vault) (V.faults result.vault) result.fault }
 {
     match read_text(alloc, source) {
         Ok(workload) => play(alloc, &workload, vault),
@@ -76,13 +73,14 @@ pub fn refused<V: Vault>(fault: Fault, vault: V) -> Ended<V>
 
 // Plays a workload's schedule.
 fn play<V: Vault>(alloc: Global, workload: &Workload, vault: V) -> Ended<V>
-    ensures fault { (result.fault ≡ None) ⊎ (result.fault ≡ Some Fault.NoMemory) }
-    ensures reported { IsSome result.report ↔ (result.fault ≡ None) }
-    ensures run { IfSome result.report (IsRunReport workload.now (V.files vault)) }
+    ensures fault { IsPlayed result.fault ⊎ (result.fault ≡ Some Fault.NoMemory) }
+    ensures reported { IsSome result.report ↔ IsPlayed result.fault }
+    ensures run { IfSome result.report (IsRunReport workload.now (V.files vault) (V.files result.vault)) }
+    ensures last { IfSome result.report (λ report. result.fault ≡ fault_in report) }
     ensures status { result.status ≡ status_of result.fault }
-    ensures files { V.files result.vault ≡ V.files vault }
-    ensures vault_faults { V.faults result.vault ≡ V.faults vault }
+    ensures store { Leaves (V.files vault) (V.files result.vault) (V.faults vault) (V.faults result.vault) result.fault }
 {
+    faithful_law();
     let mut world = match World::open(alloc, workload, vault) {
         Ok(world) => world,
         Err(fault) => return refused(Fault::NoMemory, fault.vault),
@@ -90,18 +88,22 @@ fn play<V: Vault>(alloc: Global, workload: &Workload, vault: V) -> Ended<V>
     let lines = make_steps(alloc, &mut world, workload.schedule.as_slice());
     let parts = world.into_parts();
     match lines {
-        Ok(lines) => Ended {
-            status: 0,
-            report: Some(Report::Run(RunReport {
-                lines,
-                outcomes: parts.outcomes,
-                src: parts.src,
-                dst: parts.dst,
-                end: parts.end,
-            })),
-            fault: None,
-            vault: parts.vault,
-        },
+        Ok(lines) => {
+            let fault = last_fault(lines.as_slice());
+            Ended {
+                status: crate::fault::status_of(fault),
+                report: Some(Report::Run(RunReport {
+                    lines,
+                    outcomes: parts.outcomes,
+                    src: parts.src,
+                    dst: parts.dst,
+                    jobs: parts.jobs,
+                    end: parts.end,
+                })),
+                fault,
+                vault: parts.vault,
+            }
+        }
         Err(AllocError) => refused(Fault::NoMemory, parts.vault),
     }
 }
@@ -112,11 +114,12 @@ fn make_steps<V: Vault>(
     world: &mut World<V>,
     schedule: &[ScheduleLine],
 ) -> Result<Seq<EventLine>, AllocError>
-    ensures run { IfOk result (λ lines. Run world.old.workload.settings world.old.state (turns_of lines) world.new.state) }
+    ensures run { IfOk result (λ lines. Tells world.old.workload world.old.state lines world.new.state) }
     ensures lines { IfOk result (λ lines. map (λ (line : EventLine). line.line) lines ≡ schedule.now) }
     ensures workload { world.new.workload ≡ world.old.workload }
-    ensures files { world.new.state.files ≡ world.old.state.files }
-    ensures faults { world.new.faults ≡ world.old.faults }
+    ensures telling { is_some world.new.state.files ≡ is_some world.old.state.files }
+    ensures later { world.old.faults ≤ world.new.faults }
+    ensures rose { IfOk result (λ lines. last_fault lines ≡ Some Fault.VaultFault → Rose world.old.faults world.new.faults) }
 {
     let mut lines = Seq::new(alloc);
     for line in schedule {
@@ -128,16 +131,49 @@ fn make_steps<V: Vault>(
 
 // Makes the step of one line of a schedule.
 fn make_step<V: Vault>(world: &mut World<V>, line: ScheduleLine) -> Result<EventLine, AllocError>
-    ensures step { IfOk result (λ told. Step world.old.workload.settings world.old.state (turn_of told).event (turn_of told).answer world.new.state) }
+    ensures step { IfOk result (λ told. TellsStep world.old.workload world.old.state told world.new.state) }
     ensures line { IfOk result (λ told. told.line ≡ line) }
     ensures workload { world.new.workload ≡ world.old.workload }
-    ensures files { world.new.state.files ≡ world.old.state.files }
-    ensures faults { world.new.faults ≡ world.old.faults }
+    ensures telling { is_some world.new.state.files ≡ is_some world.old.state.files }
+    ensures faults { IfOk result (λ told. Counts world.old.faults world.new.faults (fault_of told.answer ≡ Some Fault.VaultFault)) }
+    ensures later { world.old.faults ≤ world.new.faults }
 {
-    let event = event_of(line);
-    match world.step(&event) {
-        Ok(answer) => Ok(EventLine { line, answer }),
-        Err(StepFault::NoMemory) => Err(AllocError),
+    let command = command_of(world, line);
+    let answer = world.step(&event_of(line));
+    if is_starved(&answer) {
+        return Err(AllocError);
+    }
+    Ok(EventLine {
+        line,
+        command,
+        answer,
+    })
+}
+
+// There was no memory for the step.
+fn is_starved(answer: &Result<Answer, StepFault>) -> bool
+    ensures { IsTrue result ↔ (answer.now ≡ Err NoMemory) }
+{
+    matches!(answer, Err(StepFault::NoMemory))
+}
+
+// The command that a schedule's line makes a step of.
+fn command_of<V: Vault>(world: &World<V>, line: ScheduleLine) -> Option<CommandKind>
+    ensures { result ≡ command_of world.now.workload world.now.state line }
+{
+    match line {
+        ScheduleLine::Begin { .. } | ScheduleLine::Commit { .. } => None,
+        ScheduleLine::Op => next_kind(world),
+    }
+}
+
+// The kind of the operator's next command.
+fn next_kind<V: Vault>(world: &World<V>) -> Option<CommandKind>
+    ensures { result ≡ next_kind world.now.workload world.now.state }
+{
+    match world.command() {
+        Some(command) => Some(CommandKind::of(command)),
+        None => None,
     }
 }
 
@@ -148,5 +184,6 @@ fn event_of(line: ScheduleLine) -> Event
     match line {
         ScheduleLine::Begin { client } => Event::Begin { client },
         ScheduleLine::Commit { client } => Event::Commit { client },
+        ScheduleLine::Op => Event::Command,
     }
 }

@@ -1,36 +1,166 @@
 use crate::top::{Exit, top};
-use fb_bytes::Text;
-use fb_outside::{Failed, Files, MemSink, MemSource, MemVault, Sink};
+use fb_bytes::{Blob, Text, is_same};
+use fb_outside::{Failed, File, Files, MemSink, MemSource, MemVault, Sink};
 use std::alloc::{AllocError, Global};
 use std::test::Fail;
 
+// A hand job whose snapshot and log give back the client's one commit.
 const EXAMPLE: &[u8] =
-    b"block 256\npace 10\nclient 1 src\ntxn\nset a 1\nschedule\nbegin 1\ncommit 1\n";
+    b"block 256\npace 10\nclient 1 src\ntxn\nset a 1\noperator\nopen default src box\ndump default \\e \\xff\ncut default\nseal default\nschedule\nop\nbegin 1\ncommit 1\nop\nop\nop\n";
 
 const REPORT: &[u8] =
-    b"begin 1 -> read 0\ncommit 1 -> commit 10\nclient 1 txn 1 try 1 read 0 commit 10\nentry src 10 client 1 1\nset a 1\nend 10\n";
+    b"op open -> done\nbegin 1 -> read 10\ncommit 1 -> commit 20\nop dump -> placed box/kvranges/snapshot.20/0/range,20,1,256\nop cut -> placed box/logs/0/log,10,21,2,256\nop seal -> placed box/snapshots/snapshot,20,20,23,3\nclient 1 txn 1 try 1 read 10 commit 20\nentry src 20 client 1 1\nset a 1\njob 1 default hand running\nend 20\n";
 
-// Plays a text with the words of a replay.
+const RANGE_NAME: &[u8] = b"box/kvranges/snapshot.20/0/range,20,1,256";
+
+const RANGE_FILE: &[u8] =
+    b"\xe9\x03\x00\x00\x00\x00\x00\x00\x00\x00\x00\x01a\x00\x00\x00\x011\x00\x00\x00\x01\xff";
+
+const LOG_NAME: &[u8] = b"box/logs/0/log,10,21,2,256";
+
+const LOG_FILE: &[u8] =
+    b"\xd1\x07\x00\x00\x00\x00\x00\x0c\x00\x00\x00\x00\x00\x00\x00\x14\x00\x00\x00\x00\x00\x00\x00\x1a\xbd\x1b\x00\x00\x00\x00\x00\x00\x0e\x00\x00\x00\x00\x00\x00\x00\x01\x00\x00\x00\x01\x00\x00\x00a1";
+
+const MANIFEST_NAME: &[u8] = b"box/snapshots/snapshot,20,20,23,3";
+
+const MANIFEST: &[u8] =
+    b"{\"beginVersion\":20,\"endVersion\":20,\"files\":[\"kvranges/snapshot.20/0/range,20,1,256\"],\"format\":1,\"totalBytes\":23}";
+
+// Plays a text with the words of a replay, over a file store.
+fn played_over<K: Sink>(
+    alloc: Global,
+    text: &[u8],
+    failing: &[u64],
+    vault: MemVault,
+    sink: &mut K,
+) -> Result<Exit<MemVault>, AllocError> {
+    let mut words = Vec::new(alloc);
+    words.push(Text::from_str(alloc, "replay")?)?;
+    let mut source = MemSource::new(alloc, text, failing)?;
+    Ok(top(alloc, &words, &mut source, vault, sink))
+}
+
+// Plays a text over a store without files. The source's calls of the numbers in `failing` fail.
 fn played<K: Sink>(
     alloc: Global,
     text: &[u8],
     failing: &[u64],
     sink: &mut K,
 ) -> Result<Exit<MemVault>, AllocError> {
-    let mut words = Vec::new(alloc);
-    words.push(Text::from_str(alloc, "replay")?)?;
-    let mut source = MemSource::new(alloc, text, failing)?;
     let vault = MemVault::new(alloc, &Files::new(alloc), &[])?;
-    Ok(top(alloc, &words, &mut source, vault, sink))
+    played_over(alloc, text, failing, vault, sink)
+}
+
+// Whether the files have these bytes under that name.
+fn has_file(files: &Files, name: &[u8], bytes: &[u8]) -> bool {
+    match files.get(name) {
+        Some(found) => is_same(found.as_slice(), bytes),
+        None => false,
+    }
 }
 
 #[test]
-fn the_example_is_played(rt: HostRuntime) -> Result<(), Fail> {
+fn smallest_whole_path(rt: HostRuntime) -> Result<(), Fail> {
     let mut sink = MemSink::new(rt.alloc(), 1000, &[])?;
     let exit = played(rt.alloc(), EXAMPLE, &[], &mut sink)?;
     assert_eq!(rt; exit.status, 0);
     assert!(rt; exit.report.is_some());
     assert_eq!(rt; sink.written().as_slice(), REPORT);
+    let files = exit.vault.files();
+    assert_eq!(rt; files.len(), 3);
+    assert!(rt; has_file(files, RANGE_NAME, RANGE_FILE));
+    assert!(rt; has_file(files, LOG_NAME, LOG_FILE));
+    assert!(rt; has_file(files, MANIFEST_NAME, MANIFEST));
+    Ok(())
+}
+
+// The operator stays at a command whose call on the store failed. A failure is the status where it is
+// the last event's.
+#[test]
+fn a_store_that_fails_is_a_line_and_the_last_event_the_status(rt: HostRuntime) -> Result<(), Fail> {
+    for (failing, status, said) in [
+        (
+            1,
+            0,
+            b"op open -> vault-fault\nop open -> done\nop dump -> placed box/kvranges/snapshot.10/0/range,10,1,256\nop cut -> placed box/logs/0/log,10,11,2,256\njob 1 default hand running\nend 10\n".as_slice(),
+        ),
+        (
+            2,
+            0,
+            b"op open -> done\nop dump -> vault-fault\nop dump -> placed box/kvranges/snapshot.10/0/range,10,1,256\nop cut -> placed box/logs/0/log,10,11,2,256\njob 1 default hand running\nend 10\n",
+        ),
+        (
+            3,
+            0,
+            b"op open -> done\nop dump -> placed box/kvranges/snapshot.10/0/range,10,1,256\nop cut -> vault-fault\nop cut -> placed box/logs/0/log,10,11,2,256\njob 1 default hand running\nend 10\n",
+        ),
+        (
+            4,
+            5,
+            b"op open -> done\nop dump -> placed box/kvranges/snapshot.10/0/range,10,1,256\nop cut -> placed box/logs/0/log,10,11,2,256\nop seal -> vault-fault\njob 1 default hand running\nend 10\nrefused vault-fault\n",
+        ),
+    ] {
+        let text =
+            b"block 256\npace 10\noperator\nopen default src box\ndump default \\e \\xff\ncut default\nseal default\nschedule\nop\nop\nop\nop\n";
+        let vault = MemVault::new(rt.alloc(), &Files::new(rt.alloc()), &[failing])?;
+        let mut sink = MemSink::new(rt.alloc(), 1000, &[])?;
+        let exit = played_over(rt.alloc(), text, &[], vault, &mut sink)?;
+        assert_eq!(rt; exit.status, status);
+        assert!(rt; exit.report.is_some());
+        assert_eq!(rt; sink.written().as_slice(), said);
+    }
+    Ok(())
+}
+
+#[test]
+fn commands_that_are_refused_are_lines(rt: HostRuntime) -> Result<(), Fail> {
+    for (text, said) in [
+        // no job has the tag
+        (
+            b"block 256\npace 10\noperator\ndump default \\e \\xff\nstatus default\nschedule\nop\nop\nop\n".as_slice(),
+            b"op dump -> refused no-job default\nop status -> never-ran\nop -> none\nend 0\n".as_slice(),
+        ),
+        // a job was started in the container
+        (
+            b"block 256\npace 10\noperator\nopen one src box\nopen two src box\nschedule\nop\nop\n",
+            b"op open -> done\nop open -> refused container-taken one\njob 1 one hand running\nend 10\n",
+        ),
+        // nothing was dumped
+        (
+            b"block 256\npace 10\noperator\nopen one src box\nseal one\nschedule\nop\nop\n",
+            b"op open -> done\nop seal -> refused untiled \\e\njob 1 one hand running\nend 10\n",
+        ),
+        // two jobs, of which one is ended
+        (
+            b"block 256\npace 10\noperator\nopen one src box\nopen two dst cask\ndump two \\e \\xff\nabort one\nstatus one\nschedule\nop\nop\nop\nop\nop\n",
+            b"op open -> done\nop open -> done\nop dump -> placed cask/kvranges/snapshot.20/0/range,20,1,256\nop abort -> done\nop status -> aborted\njob 1 one hand aborted\njob 2 two hand running\nend 20\n",
+        ),
+    ] {
+        let mut sink = MemSink::new(rt.alloc(), 1000, &[])?;
+        let exit = played(rt.alloc(), text, &[], &mut sink)?;
+        assert_eq!(rt; exit.status, 0);
+        assert_eq!(rt; sink.written().as_slice(), said);
+    }
+    Ok(())
+}
+
+#[test]
+fn a_container_with_a_file_is_in_use(rt: HostRuntime) -> Result<(), Fail> {
+    let mut files = Files::new(rt.alloc());
+    files.put(File {
+        name: Text::from_str(rt.alloc(), "box/x")?,
+        bytes: Blob::from_slice(rt.alloc(), b"y")?,
+    })?;
+    let vault = MemVault::new(rt.alloc(), &files, &[])?;
+    let text = b"block 256\npace 10\noperator\nopen default src box\nschedule\nop\n";
+    let mut sink = MemSink::new(rt.alloc(), 1000, &[])?;
+    let exit = played_over(rt.alloc(), text, &[], vault, &mut sink)?;
+    assert_eq!(rt; exit.status, 0);
+    assert_eq!(rt;
+        sink.written().as_slice(),
+        b"op open -> refused container-in-use x\nend 0\n".as_slice()
+    );
+    assert!(rt; has_file(exit.vault.files(), b"box/x", b"y"));
     Ok(())
 }
 

@@ -1,5 +1,6 @@
 ghost use Rattle.std.specs.Prelude.{◌≡◌, Option, IfOk};
 ghost use Rattle.fb_cli.specs.declared.fault.Fault.{Fault};
+ghost use Rattle.fb_cli.specs.Replays.{Leaves};
 ghost use Rattle.fb_cli.specs.Shows.{is_replay, Commands, Shows, shown, report_part};
 
 use crate::fault::{Fault, push_refusal, status_of};
@@ -26,10 +27,9 @@ pub fn top<S: Source, V: Vault, K: Sink>(
     sink: &mut K,
 ) -> Exit<V>
     ensures command { (fault : Option Fault)
-        × Commands words.now (S.left source.old) (S.left source.new) (S.faults source.old) (S.faults source.new) (V.files vault) result.report fault
+        × Commands words.now (S.left source.old) (S.left source.new) (S.faults source.old) (S.faults source.new) (V.files vault) (V.files result.vault) result.report fault
+        × Leaves (V.files vault) (V.files result.vault) (V.faults vault) (V.faults result.vault) fault
         × Shows (K.held sink.old) (K.held sink.new) (K.faults sink.old) (K.faults sink.new) result.report fault result.status }
-    ensures files { V.files result.vault ≡ V.files vault }
-    ensures vault_faults { V.faults result.vault ≡ V.faults vault }
 {
     let ended = command(alloc, words, source, vault);
     let status = show(alloc, sink, &ended.report, ended.fault);
@@ -48,9 +48,8 @@ pub fn top<S: Source, V: Vault, K: Sink>(
 
 // The command that the words name.
 fn command<S: Source, V: Vault>(alloc: Global, words: &[Text], source: &mut S, vault: V) -> Ended<V>
-    ensures commands { Commands words.now (S.left source.old) (S.left source.new) (S.faults source.old) (S.faults source.new) (V.files vault) result.report result.fault }
-    ensures files { V.files result.vault ≡ V.files vault }
-    ensures vault_faults { V.faults result.vault ≡ V.faults vault }
+    ensures commands { Commands words.now (S.left source.old) (S.left source.new) (S.faults source.old) (S.faults source.new) (V.files vault) (V.files result.vault) result.report result.fault }
+    ensures store { Leaves (V.files vault) (V.files result.vault) (V.faults vault) (V.faults result.vault) result.fault }
 {
     if is_replay(words) {
         replay(alloc, source, vault)

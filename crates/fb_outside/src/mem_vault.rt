@@ -109,6 +109,7 @@ impl Vault for MemVault {
         ensures stays { OnErr result (self.new.files ≡ self.old.files) }
         ensures calls { self.new.calls ≡ called self.old.calls }
         ensures ordered { AreFiles self.new.files }
+        ensures was_ordered { AreFiles self.old.files }
     {
         if self.calls.fails_next() {
             return Err(VaultFail::Failed);
@@ -125,6 +126,7 @@ impl Vault for MemVault {
         ensures stays { OnErr result (self.new.files ≡ self.old.files) }
         ensures calls { self.new.calls ≡ called self.old.calls }
         ensures ordered { AreFiles self.new.files }
+        ensures was_ordered { AreFiles self.old.files }
     {
         if self.calls.fails_next() {
             return Err(VaultFail::Failed);

@@ -1,4 +1,4 @@
-ghost use Rattle.std.specs.Prelude.{◌≡◌, ℕ, List, Option, Some, ◌⊎◌, IfOk, OnOk, IsErrOf};
+ghost use Rattle.std.specs.Prelude.{◌≡◌, ℕ, List, Option, Some, None, ◌⊎◌, IfOk, OnOk, IsErrOf};
 ghost use Rattle.fb_outside.specs.Faults.{Counts};
 ghost use Rattle.fb_outside.specs.Files.{File, AreFiles, file_of, names_in, with_file, without_file};
 
@@ -11,7 +11,8 @@ pub trait Vault: Drop + Send {
     /// How many faults there were.
     ghost faults: { Self → ℕ };
 
-    /// The files, where the store tells them. One that tells them goes on telling.
+    /// The files, where the store tells them. One that tells them goes on telling, and one that
+    /// doesn't goes on not telling.
     ghost files: { Self → Option (List File) };
 
     /// The whole names of the files under the folder, in byte order. The empty folder is the whole
@@ -31,6 +32,7 @@ pub trait Vault: Drop + Send {
     fn put(&mut self, alloc: Global, name: &Text, bytes: &[u8]) -> Result<(), VaultFail>
         ensures put { OnOk result ((files_now : List File) → files self.old ≡ Some files_now → files self.new ≡ Some (with_file files_now name.now bytes.now)) }
         ensures failed { IsErrOf result VaultFail.Failed → (files_now : List File) → files self.old ≡ Some files_now → (files self.new ≡ Some files_now) ⊎ (files self.new ≡ Some (with_file files_now name.now bytes.now)) }
+        ensures silent { files self.old ≡ None → files self.new ≡ None }
         ensures no_memory { IsErrOf result VaultFail.NoMemory → files self.new ≡ files self.old }
         ensures count { Counts (faults self.old) (faults self.new) (IsErrOf result VaultFail.Failed) };
 
@@ -38,6 +40,7 @@ pub trait Vault: Drop + Send {
     fn delete(&mut self, name: &Text) -> Result<(), VaultFail>
         ensures deleted { OnOk result ((files_now : List File) → files self.old ≡ Some files_now → files self.new ≡ Some (without_file files_now name.now)) }
         ensures failed { IsErrOf result VaultFail.Failed → (files_now : List File) → files self.old ≡ Some files_now → (files self.new ≡ Some files_now) ⊎ (files self.new ≡ Some (without_file files_now name.now)) }
+        ensures silent { files self.old ≡ None → files self.new ≡ None }
         ensures no_memory { IsErrOf result VaultFail.NoMemory → files self.new ≡ files self.old }
         ensures count { Counts (faults self.old) (faults self.new) (IsErrOf result VaultFail.Failed) };
 

@@ -1,5 +1,5 @@
 -- Each name that is read is spelled so, and each spelling is read again.
-use Rattle.std.proofs.Common.{◌≡◌, ℕ, ◌/◌, Bool, true, false, cond, ◌&&◌, eqb, ltb, leb, List, [], ◌∷◌, ◌++◌, length, Option, Some, None, refl, sym, ap, subst, ◌∙◌, arith}
+use Rattle.std.proofs.Common.{◌≡◌, ℕ, ◌/◌, ◌<◌, Bool, true, false, cond, ◌&&◌, eqb, ltb, leb, List, [], ◌∷◌, ◌++◌, length, Option, Some, None, refl, sym, ap, subst, ◌∙◌, arith}
 use Rattle.std.specs.Prelude.{decimal}
 use Rattle.std.specs.Char.{is_ascii_digit}
 use Rattle.std.proofs.lemmas.Bool.{and_parts, and_from, eqb-true, eq-eqb, cond-true}
@@ -11,6 +11,7 @@ use Rattle.file_names.specs.declared.name.Name.{Name}
 use Rattle.file_names.specs.declared.name.Name.TheVariants.{Range, Log, Manifest, Unreliable, Expired, Other}
 use Rattle.file_names.specs.Spelling.{is_number, are_numbers, spelled, range_texts, log_texts, manifest_texts, unreliable_text, expired_text, range_numbers, log_numbers, manifest_numbers, spelling, is_other, OneName}
 use Rattle.file_names.specs.Reading.{after, number_after, numbers_in, range_from, log_from, manifest_from, range_of, log_of, manifest_of, property_of, first_of, or_other, name_of}
+use Rattle.file_names.specs.Laws.{SpelledName}
 use Rattle.file_names.proofs.Numbers.{bind_some, cond_some, same_is, StartsOther, number_after_found, number_after_again}
 
 -- ---- numbers behind texts
@@ -251,3 +252,23 @@ name_again text name e = name_at name text e
 
 pub name_once : OneName
 name_once text a b e f = sym (name_again text a e) ∙ name_again text b f
+
+-- no spelling is empty
+
+some_text : (test : Bool) (c : ℕ) (cs text : Bytes) → cond test (Some (c ∷ cs)) None ≡ Some text → 0 < length text
+some_text test c cs text e = let g = cond_some test (c ∷ cs) text e in subst (λ (t : Bytes). 0 < length t) g.1 (omega arith)
+
+some_spelling : (text : Bytes) (name : Name) → spelling name ≡ Some text → 0 < length text
+some_spelling text (Range snapshot version ticket block) e = some_text _ _ _ text e
+some_spelling text (Log begin end ticket block) e = some_text _ _ _ text e
+some_spelling text (Manifest begin end bytes ticket) e = some_text _ _ _ text e
+some_spelling text Unreliable e = some_text true _ _ text e
+some_spelling text Expired e = some_text true _ _ text e
+some_spelling text Other e = absurd cc
+
+pub spelled_name : SpelledName
+spelled_name = record {
+  read = name_again;
+  spelled = λ text name e named. ap spelling (sym e) ∙ name_found text (ap is_other e ∙ named);
+  some = some_spelling;
+}

@@ -6,7 +6,7 @@ mod name;
 mod parsing;
 mod printing;
 
-pub use laws::one_name;
+pub use laws::{one_name, spelling_is_read};
 pub use name::Name;
 pub use parsing::{number_at, parse};
 pub use printing::print;

@@ -8,7 +8,7 @@ mod reading;
 mod writing;
 
 pub use fault::{Field, ManifestFault};
-pub use laws::{manifest_is_read, read_is_manifest};
+pub use laws::{manifest_is_read, read_is_manifest, written_is_manifest};
 pub use manifest::Manifest;
 pub use reading::read;
 pub use writing::write;

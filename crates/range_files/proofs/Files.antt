@@ -18,7 +18,8 @@ use Rattle.range_files.specs.Front.{before_of, all_pairs, first_begin, Grows}
 use Rattle.range_files.specs.declared.file.Front.{Front}
 use Rattle.range_files.specs.Laws.{ReadIsFile, FileIsRead, OneBody}
 use Rattle.range_files.proofs.Steps.{bind_ok, test_ok, ok_is}
-use Rattle.range_files.proofs.Order.{same_eq, same_itself, ordered_rising, rising_joined}
+use Rattle.fb_bytes.proofs.Order.{same_eq, same_itself}
+use Rattle.range_files.proofs.Order.{ordered_rising, rising_joined}
 use Rattle.range_files.proofs.Blocks.{block_found, block_again, block_text-append}
 
 -- ---- the last pair of a block

@@ -1,60 +1,13 @@
--- The order of keys, and the order of the keys of a block.
-use Rattle.std.proofs.Common.{◌≡◌, ℕ, ◌+◌, Bool, true, false, cond, ◌&&◌, List, [], ◌∷◌, ◌++◌, length, Option, Some, None, refl, ap, ◌∙◌, Ordering, Less, Equal, Greater, is_lt, nat_cmp, inl, inr}
-use Rattle.std.specs.Ordering.{ordering_reverse}
-use Rattle.std.specs.Cmp.Lexicographic.{slice_cmp, bytes_decides}
-use Rattle.std.proofs.lemmas.Bool.{cases_Bool, both_ways, and_parts, and_from, not-true, not_from_false, cond-true}
-use Rattle.std.proofs.lemmas.Cmp.{nat_list_cmp_total, alike_right, tied_itself}
+-- The order of the keys of a block.
+use Rattle.std.proofs.Common.{◌≡◌, ℕ, ◌+◌, Bool, true, false, cond, ◌&&◌, List, [], ◌∷◌, ◌++◌, length, Option, Some, None, refl, ap, ◌∙◌}
+use Rattle.std.proofs.lemmas.Bool.{and_parts, and_from, not-true, not_from_false, cond-true}
 use Rattle.fb_bytes.specs.Bytes.{Bytes, is_below, is_same}
 use Rattle.fb_bytes.specs.Pairs.{AreRising}
 use Rattle.fb_bytes.specs.declared.Pair.{Pair}
+use Rattle.fb_bytes.proofs.Order.{below_trans, below_itself, below_down, same_eq, same_itself}
 use Rattle.range_files.specs.Grammar.{RiseFrom, end_key, IsOrdered, StartsAt}
 use Rattle.range_files.proofs.Items.{HasKey}
 use Rattle.range_files.specs.Reading.{unrisen, starts_well, ends_well, disorder}
-
-not_both : {A : Type 0} {b : Bool} → b ≡ true → b ≡ false → A
-not_both {b = b} h g = absurd (both_ways b g h)
-
-below_less : (x y : Bytes) → is_below x y ≡ true → slice_cmp nat_cmp x y ≡ Less
-unfolding is_below
-below_less x y h = go (slice_cmp nat_cmp x y) h
-  where
-    go : (o : Ordering) → is_lt o ≡ true → o ≡ Less
-    go Less e = refl
-    go Equal e = not_both e refl
-    go Greater e = not_both e refl
-
-less_below : (x y : Bytes) → slice_cmp nat_cmp x y ≡ Less → is_below x y ≡ true
-unfolding is_below
-less_below x y h = ap is_lt h
-
-pub below_trans : (x y z : Bytes) → is_below x y ≡ true → is_below y z ≡ true → is_below x z ≡ true
-below_trans x y z h g = less_below x z (nat_list_cmp_total.trans x y z (below_less x y h) (below_less y z g))
-
--- z is no more than y
-pub below_up : (x y z : Bytes) → is_below x z ≡ true → is_below y z ≡ false → is_below x y ≡ true
-unfolding is_below
-below_up x y z h g = go (slice_cmp nat_cmp y z) refl
-  where
-    go : (o : Ordering) → slice_cmp nat_cmp y z ≡ o → is_below x y ≡ true
-    go Less e = not_both (ap is_lt e) g
-    go Equal e = ap is_lt (alike_right nat_list_cmp_total y z x e ∙ below_less x z h)
-    go Greater e = less_below x y (nat_list_cmp_total.trans x z y (below_less x z h) (nat_list_cmp_total.antisymm z y ∙ ap ordering_reverse e))
-
-pub same_eq : (x y : Bytes) → is_same x y ≡ true → x ≡ y
-unfolding is_same
-same_eq x y h = (bytes_decides x y).0 h
-
-pub same_itself : (x : Bytes) → is_same x x ≡ true
-unfolding is_same
-same_itself x = (bytes_decides x x).1 refl
-
-pub below_itself : (x : Bytes) → is_below x x ≡ false
-unfolding is_below
-below_itself x = ap is_lt (tied_itself nat_list_cmp_total x)
-
--- x is no more than y
-pub below_from : (x y z : Bytes) → is_below y x ≡ false → is_below y z ≡ true → is_below x z ≡ true
-below_from x y z h g = elim (cases_Bool (is_below x z)) [ inl below ↦ below | inr other ↦ not_both (below_up y x z g other) h ]
 
 -- ---- the keys of a block
 
@@ -89,8 +42,8 @@ past_end begin pair (next ∷ pairs) end below rise = past_end begin next pairs 
 
 pub from_end : (begin : Bytes) (pair : Pair) (pairs : List Pair) (end : Option Bytes) → is_below pair.key begin ≡ false → ends_well begin pair.key pairs end ≡ true → RiseFrom pair.key pairs end → is_below begin (end_key pair pairs end) ≡ true
 from_end begin pair [] None from well rise = well
-from_end begin pair [] (Some end) from well rise = below_from begin pair.key end from rise
-from_end begin pair (next ∷ pairs) end from well rise = past_end begin next pairs end (below_from begin pair.key next.key from rise.0) rise.1
+from_end begin pair [] (Some end) from well rise = below_down begin pair.key end from rise
+from_end begin pair (next ∷ pairs) end from well rise = past_end begin next pairs end (below_down begin pair.key next.key from rise.0) rise.1
 
 ends_from : (begin : Bytes) (pair : Pair) (pairs : List Pair) (end : Option Bytes) → is_below begin (end_key pair pairs end) ≡ true → ends_well begin pair.key pairs end ≡ true
 ends_from begin pair [] None past = past

@@ -13,7 +13,8 @@ use Rattle.block_frame.specs.Frames.{Frames, no_frames, framed, begun, padded, t
 use Rattle.range_files.specs.Grammar.{format, pair_text, pairs_text, block_text, padding_like, LengthsFit, RiseFrom, end_key, IsOrdered, IsBlock, RangeFile, LastBlock, EarlierBlock}
 use Rattle.range_files.specs.Writing.{repeat_of, with_pairs, range_text, PairFits, IsWritable}
 use Rattle.range_files.specs.Laws.{WrittenIsFile, WrittenIsRead}
-use Rattle.range_files.proofs.Order.{below_itself, from_end}
+use Rattle.fb_bytes.proofs.Order.{below_itself}
+use Rattle.range_files.proofs.Order.{from_end}
 use Rattle.range_files.proofs.Items.{string-length}
 use Rattle.range_files.proofs.Files.{file_is_read}
 

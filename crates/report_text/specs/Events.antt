@@ -1,24 +1,92 @@
 -- The lines of a schedule's events.
-use Rattle.std.specs.Prelude.{List, [], ◌∷◌, ◌++◌, codes, decimal}
+use Rattle.std.specs.Prelude.{List, [], ◌∷◌, ◌++◌, Option, Some, None, Result, Ok, Err, codes, decimal}
 use Rattle.fb_bytes.specs.Bytes.{Bytes}
+use Rattle.fb_bytes.specs.Words.{printed}
+use Rattle.workload_text.specs.declared.Command.{Command}
+use Rattle.workload_text.specs.declared.Command.TheVariants as commands
 use Rattle.workload_text.specs.declared.ScheduleLine.{ScheduleLine}
-use Rattle.workload_text.specs.declared.ScheduleLine.TheVariants.{Begin, Commit}
+use Rattle.workload_text.specs.declared.ScheduleLine.TheVariants.{Begin, Commit, Op}
+use Rattle.cluster_core.specs.declared.JobState.{JobState}
+use Rattle.cluster_core.specs.declared.Refusal.{Refusal}
+use Rattle.cluster_core.specs.declared.Refusal.TheVariants.{TagBusy, ContainerTaken, ContainerInUse, NoJob, WrongState, OutsideRanges, Overlap, NothingNew, Untiled}
 use Rattle.cluster_core.specs.declared.Answer.{Answer}
-use Rattle.cluster_core.specs.declared.Answer.TheVariants.{Nothing, Read, Outcome}
+use Rattle.cluster_core.specs.declared.Answer.TheVariants.{Nothing, Read, Outcome, Done, Placed, Refused, State}
+use Rattle.cluster_core.specs.declared.StepFault.{StepFault}
+use Rattle.cluster_core.specs.declared.StepFault.TheVariants.{VaultFault, VersionsSpent, NoMemory}
+use Rattle.report_text.specs.declared.command_kind.CommandKind.{CommandKind}
+use Rattle.report_text.specs.declared.command_kind.CommandKind.TheVariants as kinds
 use Rattle.report_text.specs.declared.report.EventLine.{EventLine}
 use Rattle.report_text.specs.Lines.{line}
 use Rattle.report_text.specs.Outcomes.{end_words}
+use Rattle.report_text.specs.Jobs.{state_word}
 
--- what came
-abbrev pub event_words : ScheduleLine → List Bytes
-event_words (Begin client) = codes "begin" ∷ decimal client ∷ []
-event_words (Commit client) = codes "commit" ∷ decimal client ∷ []
+-- which command it is, whatever its tag and the rest of it
+abbrev pub kind_of : Command → CommandKind
+kind_of (commands.Open tag side container ranges) = kinds.Open
+kind_of (commands.Dump tag piece) = kinds.Dump
+kind_of (commands.Cut tag) = kinds.Cut
+kind_of (commands.Seal tag) = kinds.Seal
+kind_of (commands.Abort tag) = kinds.Abort
+kind_of (commands.Status tag) = kinds.Status
 
--- what it was answered
+-- the word that begins the command's line in a workload
+abbrev pub command_word : CommandKind → Bytes
+command_word kinds.Open = codes "open"
+command_word kinds.Dump = codes "dump"
+command_word kinds.Cut = codes "cut"
+command_word kinds.Seal = codes "seal"
+command_word kinds.Abort = codes "abort"
+command_word kinds.Status = codes "status"
+
+-- no word where no command was left
+abbrev pub command_words : Option CommandKind → List Bytes
+command_words None = []
+command_words (Some kind) = command_word kind ∷ []
+
+-- what came, and the command of an operator's step
+abbrev pub event_words : ScheduleLine → Option CommandKind → List Bytes
+event_words (Begin client) command = codes "begin" ∷ decimal client ∷ []
+event_words (Commit client) command = codes "commit" ∷ decimal client ∷ []
+event_words Op command = codes "op" ∷ command_words command
+
+-- why a command was refused
+abbrev pub refusal_words : Refusal → List Bytes
+refusal_words (TagBusy tag) = codes "tag-busy" ∷ tag ∷ []
+refusal_words (ContainerTaken tag) = codes "container-taken" ∷ tag ∷ []
+refusal_words (ContainerInUse name) = codes "container-in-use" ∷ name ∷ []
+refusal_words (NoJob tag) = codes "no-job" ∷ tag ∷ []
+refusal_words (WrongState state) = codes "wrong-state" ∷ state_word state ∷ []
+refusal_words (OutsideRanges key) = codes "outside-ranges" ∷ printed key ∷ []
+refusal_words (Overlap key) = codes "overlap" ∷ printed key ∷ []
+refusal_words (NothingNew version) = codes "nothing-new" ∷ decimal version ∷ []
+refusal_words (Untiled key) = codes "untiled" ∷ printed key ∷ []
+
+-- the state of the newest job with a tag, where there is one
+abbrev pub status_word : Option JobState → Bytes
+status_word None = codes "never-ran"
+status_word (Some state) = state_word state
+
+-- what an event was answered
 abbrev pub answer_words : Answer → List Bytes
 answer_words Nothing = codes "none" ∷ []
 answer_words (Read version) = codes "read" ∷ decimal version ∷ []
 answer_words (Outcome outcome) = end_words outcome.end
+answer_words Done = codes "done" ∷ []
+answer_words (Placed name) = codes "placed" ∷ name ∷ []
+answer_words (Refused refusal) = codes "refused" ∷ refusal_words refusal
+answer_words (State state) = status_word state ∷ []
 
+-- why a step was refused
+abbrev pub step_fault_words : StepFault → List Bytes
+step_fault_words VaultFault = codes "vault-fault" ∷ []
+step_fault_words (VersionsSpent version) = codes "versions-spent" ∷ decimal version ∷ []
+step_fault_words NoMemory = codes "no-memory" ∷ []
+
+-- the answer, or the fault of a step that was refused
+abbrev pub reply_words : Result Answer StepFault → List Bytes
+reply_words (Ok answer) = answer_words answer
+reply_words (Err fault) = step_fault_words fault
+
+-- an event, and behind an arrow what it was answered
 abbrev pub event_line : EventLine → Bytes
-event_line event = line (event_words event.line ++ codes "->" ∷ answer_words event.answer)
+event_line event = line (event_words event.line event.command ++ codes "->" ∷ reply_words event.answer)

@@ -1,5 +1,6 @@
 pub mod Lines
 pub mod Outcomes
+pub mod Jobs
 pub mod Events
 pub mod Entries
 pub mod Reports

@@ -3,7 +3,7 @@ use Rattle.std.specs.Prelude.{ℕ, ◌+◌, List, [], ◌∷◌, ◌++◌, codes
 use Rattle.std.specs.List.{flat_map}
 use Rattle.fb_bytes.specs.Bytes.{Bytes}
 use Rattle.database.specs.declared.CommitFault.{CommitFault}
-use Rattle.database.specs.declared.CommitFault.TheVariants.{Outside, KeyTooLarge, ValueTooLarge, TooLarge, VersionsSpent, NoMemory}
+use Rattle.database.specs.declared.CommitFault.TheVariants.{Outside, KeyTooLarge, ValueTooLarge, TooLarge, VersionsSpent, LogTooLarge, NoMemory}
 use Rattle.client_core.specs.declared.Outcome.{Outcome}
 use Rattle.client_core.specs.declared.End.{End}
 use Rattle.client_core.specs.declared.End.TheVariants.{Commit, ReadOnly, Fault}
@@ -16,6 +16,7 @@ fault_words (KeyTooLarge index) = codes "2102" ∷ decimal index ∷ []
 fault_words (ValueTooLarge index) = codes "2103" ∷ decimal index ∷ []
 fault_words (TooLarge bytes) = codes "2101" ∷ decimal bytes ∷ []
 fault_words (VersionsSpent version) = codes "versions-spent" ∷ decimal version ∷ []
+fault_words (LogTooLarge bytes) = codes "log-too-large" ∷ decimal bytes ∷ []
 fault_words NoMemory = codes "no-memory" ∷ []
 
 -- how a try ended

@@ -1,12 +1,12 @@
 //! The lines of a history.
 
-ghost use Rattle.std.specs.Prelude.{◌≡◌, [], ◌∷◌, ◌++◌, decimal, OnOk};
+ghost use Rattle.std.specs.Prelude.{◌≡◌, [], ◌∷◌, ◌++◌, OnOk};
 ghost use Rattle.std.specs.List.{flat_map};
 ghost use Rattle.fb_bytes.specs.Words.{printed};
 ghost use Rattle.report_text.specs.Lines.{behind, line};
 ghost use Rattle.report_text.specs.Entries.{who_words, mutation_line, entry_lines};
 
-use crate::words::{put, put_bytes, put_field};
+use crate::words::{put, put_bytes, put_field, put_last};
 use fb_bytes::Blob;
 use mutations::{Entry, Mutation, Who};
 use std::alloc::{AllocError, Global};
@@ -47,20 +47,13 @@ pub fn put_who(out: &mut Blob, who: Who) -> Result<(), AllocError>
     match who {
         Who::Client { client, place } => {
             put_field(out, b" client ", client)?;
-            put_job(out, b" ", place)
+            put_last(out, b" ", place)
         }
-        Who::Load { job } => put_job(out, b" load ", job),
-        Who::Apply { job } => put_job(out, b" apply ", job),
-        Who::Lock { job } => put_job(out, b" lock ", job),
-        Who::Unlock { job } => put_job(out, b" unlock ", job),
+        Who::Load { job } => put_last(out, b" load ", job),
+        Who::Apply { job } => put_last(out, b" apply ", job),
+        Who::Lock { job } => put_last(out, b" lock ", job),
+        Who::Unlock { job } => put_last(out, b" unlock ", job),
     }
-}
-
-fn put_job(out: &mut Blob, word: &[u8], job: u64) -> Result<(), AllocError>
-    ensures { OnOk result (out.new ≡ out.old ++ word.now ++ decimal job ++ 10 ∷ []) }
-{
-    put_field(out, word, job)?;
-    put(out, b"\n")
 }
 
 pub fn put_mutations(

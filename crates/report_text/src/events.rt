@@ -2,53 +2,85 @@
 
 ghost use Rattle.std.specs.Prelude.{◌≡◌, ◌∷◌, ◌++◌, codes, decimal, OnOk};
 ghost use Rattle.std.specs.List.{flat_map};
-ghost use Rattle.report_text.specs.Lines.{behind};
-ghost use Rattle.report_text.specs.Events.{answer_words, event_line};
+ghost use Rattle.report_text.specs.Lines.{behind, line};
+ghost use Rattle.report_text.specs.Events.{command_word, command_words, reply_words, event_line};
 
-use crate::EventLine;
-use crate::outcomes::put_end;
+use crate::answers::put_reply;
 use crate::words::{put, put_field};
-use cluster_core::Answer;
+use crate::{CommandKind, EventLine};
+use cluster_core::{Answer, StepFault};
 use fb_bytes::Blob;
-use std::alloc::AllocError;
+use std::alloc::{AllocError, Global};
 use workload_text::ScheduleLine;
 
 /// The lines of all events.
-pub fn put_events(out: &mut Blob, events: &[EventLine]) -> Result<(), AllocError>
+pub fn put_events(alloc: Global, out: &mut Blob, events: &[EventLine]) -> Result<(), AllocError>
     ensures { OnOk result (out.new ≡ out.old ++ flat_map event_line events.now) }
 {
     for event in events {
-        put_event(out, event)?;
+        put_event(alloc, out, event)?;
     }
     Ok(())
 }
 
-fn put_event(out: &mut Blob, event: &EventLine) -> Result<(), AllocError>
+fn put_event(alloc: Global, out: &mut Blob, event: &EventLine) -> Result<(), AllocError>
     ensures { OnOk result (out.new ≡ out.old ++ event_line event.now) }
 {
     match event.line {
-        ScheduleLine::Begin { client } => put_turn(out, b"begin ", client, event.answer),
-        ScheduleLine::Commit { client } => put_turn(out, b"commit ", client, event.answer),
+        ScheduleLine::Begin { client } => put_turn(alloc, out, b"begin ", client, &event.answer),
+        ScheduleLine::Commit { client } => put_turn(alloc, out, b"commit ", client, &event.answer),
+        ScheduleLine::Op => put_step(alloc, out, event.command, &event.answer),
     }
 }
 
-fn put_turn(out: &mut Blob, word: &[u8], client: u32, answer: Answer) -> Result<(), AllocError>
-    ensures { OnOk result (out.new ≡ out.old ++ word.now ++ decimal client ++ behind (codes "->" ∷ answer_words answer)) }
+fn put_turn(
+    alloc: Global,
+    out: &mut Blob,
+    word: &[u8],
+    client: u32,
+    answer: &Result<Answer, StepFault>,
+) -> Result<(), AllocError>
+    ensures { OnOk result (out.new ≡ out.old ++ word.now ++ decimal client ++ behind (codes "->" ∷ reply_words answer.now)) }
 {
     put_field(out, word, client)?;
-    put(out, b" ->")?;
-    put_answer(out, answer)
+    put_answered(alloc, out, answer)
 }
 
-fn put_answer(out: &mut Blob, answer: Answer) -> Result<(), AllocError>
-    ensures { OnOk result (out.new ≡ out.old ++ behind (answer_words answer)) }
+fn put_step(
+    alloc: Global,
+    out: &mut Blob,
+    command: Option<CommandKind>,
+    answer: &Result<Answer, StepFault>,
+) -> Result<(), AllocError>
+    ensures { OnOk result (out.new ≡ out.old ++ line (codes "op" ∷ (command_words command ++ codes "->" ∷ reply_words answer.now))) }
 {
-    match answer {
-        Answer::Nothing => put(out, b" none\n"),
-        Answer::Read { version } => {
-            put_field(out, b" read ", version)?;
-            put(out, b"\n")
-        }
-        Answer::Outcome(outcome) => put_end(out, outcome.end),
+    put(out, b"op")?;
+    match command {
+        Some(command) => put_command(alloc, out, command, answer),
+        None => put_answered(alloc, out, answer),
     }
+}
+
+fn put_command(
+    alloc: Global,
+    out: &mut Blob,
+    command: CommandKind,
+    answer: &Result<Answer, StepFault>,
+) -> Result<(), AllocError>
+    ensures { OnOk result (out.new ≡ out.old ++ behind (command_word command ∷ codes "->" ∷ reply_words answer.now)) }
+{
+    put(out, b" ")?;
+    put(out, command.word().as_bytes())?;
+    put_answered(alloc, out, answer)
+}
+
+fn put_answered(
+    alloc: Global,
+    out: &mut Blob,
+    answer: &Result<Answer, StepFault>,
+) -> Result<(), AllocError>
+    ensures { OnOk result (out.new ≡ out.old ++ behind (codes "->" ∷ reply_words answer.now)) }
+{
+    put(out, b" ->")?;
+    put_reply(alloc, out, answer)
 }

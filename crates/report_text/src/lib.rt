@@ -1,8 +1,11 @@
 //! Reports: what a run did, and its text.
 #![tactic(auto)]
 
+mod answers;
+mod command_kind;
 mod entries;
 mod events;
+mod jobs;
 mod outcomes;
 mod printing;
 mod report;
@@ -10,5 +13,6 @@ mod report;
 mod tests;
 mod words;
 
+pub use command_kind::CommandKind;
 pub use printing::report_bytes;
 pub use report::{EventLine, Report, RunReport};

@@ -1,11 +1,11 @@
 //! The lines of clients.
 
-ghost use Rattle.std.specs.Prelude.{◌≡◌, [], ◌∷◌, ◌++◌, decimal, OnOk};
+ghost use Rattle.std.specs.Prelude.{◌≡◌, ◌++◌, OnOk};
 ghost use Rattle.std.specs.List.{flat_map};
 ghost use Rattle.report_text.specs.Lines.{behind};
 ghost use Rattle.report_text.specs.Outcomes.{end_words, fault_words, client_line, client_lines};
 
-use crate::words::{put, put_field};
+use crate::words::{put, put_field, put_last};
 use client_core::{End, Outcome, Outcomes};
 use database::CommitFault;
 use fb_bytes::Blob;
@@ -45,10 +45,7 @@ pub fn put_end(out: &mut Blob, end: End) -> Result<(), AllocError>
     ensures { OnOk result (out.new ≡ out.old ++ behind (end_words end)) }
 {
     match end {
-        End::Commit { version } => {
-            put_field(out, b" commit ", version)?;
-            put(out, b"\n")
-        }
+        End::Commit { version } => put_last(out, b" commit ", version),
         End::ReadOnly => put(out, b" readonly\n"),
         End::Fault(fault) => put_fault(out, fault),
     }
@@ -58,20 +55,12 @@ fn put_fault(out: &mut Blob, fault: CommitFault) -> Result<(), AllocError>
     ensures { OnOk result (out.new ≡ out.old ++ behind (fault_words fault)) }
 {
     match fault {
-        CommitFault::Outside { index } => put_code(out, b" 2004 ", index as u128),
-        CommitFault::KeyTooLarge { index } => put_code(out, b" 2102 ", index as u128),
-        CommitFault::ValueTooLarge { index } => put_code(out, b" 2103 ", index as u128),
-        CommitFault::TooLarge { bytes } => put_code(out, b" 2101 ", bytes),
-        CommitFault::VersionsSpent { version } => {
-            put_code(out, b" versions-spent ", u128::from(version))
-        }
+        CommitFault::Outside { index } => put_last(out, b" 2004 ", index),
+        CommitFault::KeyTooLarge { index } => put_last(out, b" 2102 ", index),
+        CommitFault::ValueTooLarge { index } => put_last(out, b" 2103 ", index),
+        CommitFault::TooLarge { bytes } => put_last(out, b" 2101 ", bytes),
+        CommitFault::VersionsSpent { version } => put_last(out, b" versions-spent ", version),
+        CommitFault::LogTooLarge { bytes } => put_last(out, b" log-too-large ", bytes),
         CommitFault::NoMemory => put(out, b" no-memory\n"),
     }
-}
-
-fn put_code(out: &mut Blob, code: &[u8], number: u128) -> Result<(), AllocError>
-    ensures { OnOk result (out.new ≡ out.old ++ code.now ++ decimal number ++ 10 ∷ []) }
-{
-    put_field(out, code, number)?;
-    put(out, b"\n")
 }

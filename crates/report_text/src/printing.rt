@@ -1,12 +1,15 @@
 ghost use Rattle.std.specs.Prelude.{◌≡◌, ◌++◌, IfOk, OnOk};
-ghost use Rattle.report_text.specs.Reports.{details, run_text, report_text};
+ghost use Rattle.report_text.specs.Reports.{details, end_line, run_text, report_text};
 
 use crate::entries::put_entries;
 use crate::events::put_events;
+use crate::jobs::put_jobs;
 use crate::outcomes::put_outcomes;
-use crate::words::{put, put_field};
+use crate::words::put_last;
 use crate::{Report, RunReport};
+use client_core::Outcomes;
 use fb_bytes::Blob;
+use mutations::History;
 use std::alloc::{AllocError, Global};
 
 /// The bytes of a report. A brief one leaves out the clients' tries and the histories.
@@ -23,18 +26,32 @@ pub fn report_bytes(alloc: Global, report: &Report, brief: bool) -> Result<Blob,
 fn put_run(alloc: Global, out: &mut Blob, run: &RunReport, brief: bool) -> Result<(), AllocError>
     ensures { OnOk result (out.new ≡ out.old ++ run_text brief run.now) }
 {
-    put_events(out, run.lines.as_slice())?;
+    put_events(alloc, out, run.lines.as_slice())?;
     if !brief {
-        put_details(alloc, out, run)?;
+        put_details(alloc, out, &run.outcomes, &run.src, &run.dst)?;
     }
-    put_field(out, b"end ", run.end)?;
-    put(out, b"\n")
+    put_jobs(out, &run.jobs)?;
+    put_newest(out, run.end)
 }
 
-fn put_details(alloc: Global, out: &mut Blob, run: &RunReport) -> Result<(), AllocError>
-    ensures { OnOk result (out.new ≡ out.old ++ details run.now) }
+/// What a brief report leaves out.
+pub fn put_details(
+    alloc: Global,
+    out: &mut Blob,
+    outcomes: &Outcomes,
+    src: &History,
+    dst: &History,
+) -> Result<(), AllocError>
+    ensures { OnOk result (out.new ≡ out.old ++ details outcomes.now src.now dst.now) }
 {
-    put_outcomes(out, &run.outcomes)?;
-    put_entries(alloc, out, b"src", run.src.as_slice())?;
-    put_entries(alloc, out, b"dst", run.dst.as_slice())
+    put_outcomes(out, outcomes)?;
+    put_entries(alloc, out, b"src", src.as_slice())?;
+    put_entries(alloc, out, b"dst", dst.as_slice())
+}
+
+/// The last line.
+pub fn put_newest(out: &mut Blob, version: u64) -> Result<(), AllocError>
+    ensures { OnOk result (out.new ≡ out.old ++ end_line version) }
+{
+    put_last(out, b"end ", version)
 }

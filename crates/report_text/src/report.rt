@@ -1,14 +1,17 @@
+use crate::CommandKind;
 use client_core::Outcomes;
-use cluster_core::Answer;
+use cluster_core::{Answer, Jobs, StepFault};
 use fb_bytes::Seq;
 use mutations::History;
 use workload_text::ScheduleLine;
 
 /// An event of a schedule, and what it was answered.
-#[derive(Clone, Copy, Debug, PartialEq, Eq)]
+#[derive(Debug, Drop)]
 pub struct EventLine {
     pub line: ScheduleLine,
-    pub answer: Answer,
+    /// The command of an operator's step, where one was left.
+    pub command: Option<CommandKind>,
+    pub answer: Result<Answer, StepFault>,
 }
 
 /// What a run did.
@@ -20,6 +23,8 @@ pub struct RunReport {
     pub outcomes: Outcomes,
     pub src: History,
     pub dst: History,
+    /// In the order of their numbers.
+    pub jobs: Jobs,
     /// The newest version when the run ended.
     pub end: u64,
 }

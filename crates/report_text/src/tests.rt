@@ -1,17 +1,20 @@
 use super::*;
 use crate::entries::{put_mutations, put_who};
+use crate::events::put_events;
+use crate::jobs::put_job;
 use crate::outcomes::put_end;
+use crate::printing::{put_details, put_newest};
 use atomic_ops::Op;
 use block_frame::Profile;
 use client_core::{Client, End, Outcomes};
-use cluster_core::Answer;
+use cluster_core::{Answer, JobState, Refusal, StepFault};
 use database::{CommitFault, Db};
-use fb_bytes::{Blob, Seq};
+use fb_bytes::{Blob, KeyRange, Ranges, Seq, Text};
 use mutations::{History, Mutation, TxOp, TxOps, Who};
 use std::alloc::{AllocError, Global};
 use std::test::Fail;
 use versioned_kv::Versions;
-use workload_text::{ClientScript, ScheduleLine, Side};
+use workload_text::{ClientScript, Command, ScheduleLine, Side};
 
 // A client on src with one transaction, which sets `a` to `1`.
 fn script(alloc: Global) -> Result<ClientScript, AllocError> {
@@ -29,48 +32,321 @@ fn script(alloc: Global) -> Result<ClientScript, AllocError> {
     })
 }
 
-// What that client's begin and commit leave.
-fn run(alloc: Global, profile: Profile) -> Result<RunReport, AllocError> {
+// A line of the operator.
+fn operated(command: CommandKind, answer: Result<Answer, StepFault>) -> EventLine {
+    EventLine {
+        line: ScheduleLine::Op,
+        command: Some(command),
+        answer,
+    }
+}
+
+fn push_placed(
+    alloc: Global,
+    lines: &mut Seq<EventLine>,
+    command: CommandKind,
+    name: &str,
+) -> Result<(), AllocError> {
+    let name = Text::from_str(alloc, name)?;
+    lines.push(operated(command, Ok(Answer::Placed { name })))
+}
+
+// A run without its jobs, which only a world makes.
+#[derive(Drop)]
+struct Played {
+    lines: Seq<EventLine>,
+    outcomes: Outcomes,
+    src: History,
+    end: u64,
+}
+
+// A job is opened at version 10, and then the client begins and commits.
+fn play(alloc: Global, profile: Profile) -> Result<Played, AllocError> {
     let mut client = Client::new(alloc, &script(alloc)?)?;
-    let mut versions = Versions { now: 0, pace: 10 };
+    let mut versions = Versions { now: 10, pace: 10 };
     let mut db = Db::new(alloc, profile);
     let mut lines = Seq::new(alloc);
+    lines.push(operated(CommandKind::Open, Ok(Answer::Done)))?;
     if let Some(version) = client.begin(&db, &versions) {
         lines.push(EventLine {
             line: ScheduleLine::Begin { client: 1 },
-            answer: Answer::Read { version },
+            command: None,
+            answer: Ok(Answer::Read { version }),
         })?;
     }
     if let Some(outcome) = client.commit(&mut db, &mut versions)? {
         lines.push(EventLine {
             line: ScheduleLine::Commit { client: 1 },
-            answer: Answer::Outcome(outcome),
+            command: None,
+            answer: Ok(Answer::Outcome(outcome)),
         })?;
     }
     let mut clients = Vec::new(alloc);
     clients.push(client)?;
-    Ok(RunReport {
+    Ok(Played {
         lines,
         outcomes: Outcomes::from_clients(clients),
         src: db.into_history(),
-        dst: History::new(alloc),
         end: versions.now,
     })
 }
 
+// The operator dumps, cuts and seals.
+fn push_backup(alloc: Global, lines: &mut Seq<EventLine>) -> Result<(), AllocError> {
+    push_placed(
+        alloc,
+        lines,
+        CommandKind::Dump,
+        "box/kvranges/snapshot.20/0/range,20,1,256",
+    )?;
+    push_placed(alloc, lines, CommandKind::Cut, "box/logs/0/log,10,21,2,256")?;
+    push_placed(
+        alloc,
+        lines,
+        CommandKind::Seal,
+        "box/snapshots/snapshot,20,20,23,3",
+    )
+}
+
+// The bytes of the run's report, with one job.
+fn played_bytes(alloc: Global, played: &Played) -> Result<Blob, AllocError> {
+    let tag = Text::from_str(alloc, "default")?;
+    let mut out = Blob::new(alloc);
+    put_events(alloc, &mut out, played.lines.as_slice())?;
+    put_details(
+        alloc,
+        &mut out,
+        &played.outcomes,
+        &played.src,
+        &History::new(alloc),
+    )?;
+    put_job(&mut out, 1, &tag, JobState::Running)?;
+    put_newest(&mut out, played.end)?;
+    Ok(out)
+}
+
 #[test]
-fn one_commit(rt: HostRuntime) -> Result<(), Fail> {
+fn smallest_whole_path(rt: HostRuntime) -> Result<(), Fail> {
     let profile = Profile::from_block(256);
     assert!(rt; profile.is_some());
     if let Some(profile) = profile {
-        let report = Report::Run(run(rt.alloc(), profile)?);
-        let whole = report_bytes(rt.alloc(), &report, false)?;
+        let mut played = play(rt.alloc(), profile)?;
+        push_backup(rt.alloc(), &mut played.lines)?;
+        let whole = played_bytes(rt.alloc(), &played)?;
         let text =
-            b"begin 1 -> read 0\ncommit 1 -> commit 10\nclient 1 txn 1 try 1 read 0 commit 10\nentry src 10 client 1 1\nset a 1\nend 10\n";
+            b"op open -> done\nbegin 1 -> read 10\ncommit 1 -> commit 20\nop dump -> placed box/kvranges/snapshot.20/0/range,20,1,256\nop cut -> placed box/logs/0/log,10,21,2,256\nop seal -> placed box/snapshots/snapshot,20,20,23,3\nclient 1 txn 1 try 1 read 10 commit 20\nentry src 20 client 1 1\nset a 1\njob 1 default hand running\nend 20\n";
         assert_eq!(rt; whole.as_slice(), text.as_slice());
-        let brief = report_bytes(rt.alloc(), &report, true)?;
-        let text = b"begin 1 -> read 0\ncommit 1 -> commit 10\nend 10\n";
-        assert_eq!(rt; brief.as_slice(), text.as_slice());
+    }
+    Ok(())
+}
+
+// The bytes of one line of a schedule.
+fn line_bytes(alloc: Global, event: EventLine) -> Result<Blob, AllocError> {
+    let mut out = Blob::new(alloc);
+    put_events(alloc, &mut out, &[event])?;
+    Ok(out)
+}
+
+#[test]
+fn operator_lines(rt: HostRuntime) -> Result<(), Fail> {
+    let rows: [(CommandKind, Result<Answer, StepFault>, &[u8]); 7] = [
+        (CommandKind::Open, Ok(Answer::Done), b"op open -> done\n"),
+        (
+            CommandKind::Dump,
+            Err(StepFault::VaultFault),
+            b"op dump -> vault-fault\n",
+        ),
+        (
+            CommandKind::Cut,
+            Err(StepFault::VersionsSpent { version: 7 }),
+            b"op cut -> versions-spent 7\n",
+        ),
+        (
+            CommandKind::Seal,
+            Err(StepFault::NoMemory),
+            b"op seal -> no-memory\n",
+        ),
+        (CommandKind::Abort, Ok(Answer::Done), b"op abort -> done\n"),
+        (
+            CommandKind::Status,
+            Ok(Answer::State { state: None }),
+            b"op status -> never-ran\n",
+        ),
+        (
+            CommandKind::Status,
+            Ok(Answer::State {
+                state: Some(JobState::Aborted),
+            }),
+            b"op status -> aborted\n",
+        ),
+    ];
+    for (command, answer, text) in rows {
+        let line = line_bytes(rt.alloc(), operated(command, answer))?;
+        assert_eq!(rt; line.as_slice(), text);
+    }
+    Ok(())
+}
+
+#[test]
+fn operator_without_a_command(rt: HostRuntime) -> Result<(), Fail> {
+    let event = EventLine {
+        line: ScheduleLine::Op,
+        command: None,
+        answer: Ok(Answer::Nothing),
+    };
+    let line = line_bytes(rt.alloc(), event)?;
+    assert_eq!(rt; line.as_slice(), b"op -> none\n".as_slice());
+    Ok(())
+}
+
+// The line of a dump that was refused.
+fn refused(alloc: Global, refusal: Refusal) -> Result<Blob, AllocError> {
+    line_bytes(
+        alloc,
+        operated(CommandKind::Dump, Ok(Answer::Refused(refusal))),
+    )
+}
+
+#[test]
+fn refusals_with_names(rt: HostRuntime) -> Result<(), Fail> {
+    let alloc = rt.alloc();
+    let tag = Text::from_str(alloc, "a")?;
+    let job = Text::from_str(alloc, "b-1")?;
+    let name = Text::from_str(alloc, "box/logs/0/log,10,21,2,256")?;
+    let unknown = Text::from_str(alloc, "c")?;
+    let rows: [(Refusal, &[u8]); 5] = [
+        (Refusal::TagBusy { tag }, b"op dump -> refused tag-busy a\n"),
+        (
+            Refusal::ContainerTaken { tag: job },
+            b"op dump -> refused container-taken b-1\n",
+        ),
+        (
+            Refusal::ContainerInUse { name },
+            b"op dump -> refused container-in-use box/logs/0/log,10,21,2,256\n",
+        ),
+        (
+            Refusal::NoJob { tag: unknown },
+            b"op dump -> refused no-job c\n",
+        ),
+        (
+            Refusal::WrongState {
+                state: JobState::Completed,
+            },
+            b"op dump -> refused wrong-state completed\n",
+        ),
+    ];
+    for (refusal, text) in rows {
+        let line = refused(alloc, refusal)?;
+        assert_eq!(rt; line.as_slice(), text);
+    }
+    Ok(())
+}
+
+#[test]
+fn refusals_with_keys(rt: HostRuntime) -> Result<(), Fail> {
+    let alloc = rt.alloc();
+    let outside = Blob::from_slice(alloc, b"k v")?;
+    let again = Blob::from_slice(alloc, b"m")?;
+    let rows: [(Refusal, &[u8]); 4] = [
+        (
+            Refusal::OutsideRanges { key: outside },
+            b"op dump -> refused outside-ranges k\\x20v\n",
+        ),
+        (
+            Refusal::Overlap { key: again },
+            b"op dump -> refused overlap m\n",
+        ),
+        (
+            Refusal::NothingNew { version: 20 },
+            b"op dump -> refused nothing-new 20\n",
+        ),
+        (
+            Refusal::Untiled {
+                key: Blob::new(alloc),
+            },
+            b"op dump -> refused untiled \\e\n",
+        ),
+    ];
+    for (refusal, text) in rows {
+        let line = refused(alloc, refusal)?;
+        assert_eq!(rt; line.as_slice(), text);
+    }
+    Ok(())
+}
+
+#[test]
+fn jobs_in_each_state(rt: HostRuntime) -> Result<(), Fail> {
+    let rows: [(usize, JobState, &[u8]); 6] = [
+        (1, JobState::Submitted, b"job 1 a hand submitted\n"),
+        (2, JobState::Running, b"job 2 a hand running\n"),
+        (
+            3,
+            JobState::RunningDifferential,
+            b"job 3 a hand running-differential\n",
+        ),
+        (4, JobState::Completed, b"job 4 a hand completed\n"),
+        (5, JobState::Aborted, b"job 5 a hand aborted\n"),
+        (10, JobState::Failed, b"job 10 a hand failed\n"),
+    ];
+    let tag = Text::from_str(rt.alloc(), "a")?;
+    for (number, state, text) in rows {
+        let mut out = Blob::new(rt.alloc());
+        put_job(&mut out, number, &tag, state)?;
+        assert_eq!(rt; out.as_slice(), text);
+    }
+    Ok(())
+}
+
+#[test]
+fn kinds_of_commands(rt: HostRuntime) -> Result<(), Fail> {
+    let alloc = rt.alloc();
+    let ranges = Ranges::build(alloc, &[]);
+    assert!(rt; ranges.is_ok());
+    if let Ok(ranges) = ranges {
+        let open = Command::Open {
+            tag: Text::new(alloc),
+            side: Side::Src,
+            container: Text::new(alloc),
+            ranges,
+        };
+        assert_eq!(rt; CommandKind::of(&open), CommandKind::Open);
+    }
+    let dump = Command::Dump {
+        tag: Text::new(alloc),
+        piece: KeyRange {
+            begin: Blob::new(alloc),
+            end: Blob::from_slice(alloc, b"m")?,
+        },
+    };
+    assert_eq!(rt; CommandKind::of(&dump), CommandKind::Dump);
+    let rows = [
+        (
+            Command::Cut {
+                tag: Text::new(alloc),
+            },
+            CommandKind::Cut,
+        ),
+        (
+            Command::Seal {
+                tag: Text::new(alloc),
+            },
+            CommandKind::Seal,
+        ),
+        (
+            Command::Abort {
+                tag: Text::new(alloc),
+            },
+            CommandKind::Abort,
+        ),
+        (
+            Command::Status {
+                tag: Text::new(alloc),
+            },
+            CommandKind::Status,
+        ),
+    ];
+    for (command, kind) in rows {
+        assert_eq!(rt; CommandKind::of(&command), kind);
     }
     Ok(())
 }
@@ -85,13 +361,17 @@ fn ends(rt: HostRuntime) -> Result<(), Fail> {
         End::Fault(CommitFault::ValueTooLarge { index: 2 }),
         End::Fault(CommitFault::TooLarge { bytes: 10_000_001 }),
         End::Fault(CommitFault::VersionsSpent { version: 7 }),
+        End::Fault(CommitFault::LogTooLarge {
+            bytes: 4_294_967_296,
+        }),
+        End::Fault(CommitFault::NoMemory),
     ];
     let mut out = Blob::new(rt.alloc());
     for end in ends {
         put_end(&mut out, end)?;
     }
     let text =
-        b" commit 20\n readonly\n 2004 0\n 2102 1\n 2103 2\n 2101 10000001\n versions-spent 7\n";
+        b" commit 20\n readonly\n 2004 0\n 2102 1\n 2103 2\n 2101 10000001\n versions-spent 7\n log-too-large 4294967296\n no-memory\n";
     assert_eq!(rt; out.as_slice(), text.as_slice());
     Ok(())
 }

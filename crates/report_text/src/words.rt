@@ -1,6 +1,6 @@
 //! The words of a line, each put behind what stands.
 
-ghost use Rattle.std.specs.Prelude.{◌≡◌, ◌++◌, OnOk};
+ghost use Rattle.std.specs.Prelude.{◌≡◌, [], ◌∷◌, ◌++◌, OnOk};
 ghost use Rattle.fb_bytes.specs.Words.{printed};
 
 use fb_bytes::{Blob, print_bytes};
@@ -26,6 +26,14 @@ pub fn put_field<N: Integer>(out: &mut Blob, text: &[u8], number: N) -> Result<(
 {
     put(out, text)?;
     put_number(out, number)
+}
+
+/// A text, a number behind it, and the line's end.
+pub fn put_last<N: Integer>(out: &mut Blob, text: &[u8], number: N) -> Result<(), AllocError>
+    ensures { OnOk result (out.new ≡ out.old ++ (text.now ++ (N.text number ++ 10 ∷ []))) }
+{
+    put_field(out, text, number)?;
+    put(out, b"\n")
 }
 
 /// The word of a key, a value or a parameter.

@@ -12,7 +12,7 @@ use Rattle.snapshot_plan.specs.Laws.{PieceLaw}
 
 -- ---- tests of keys
 
-proper : (r : KeyRange) → is_backwards r ≡ false → is_below r.begin r.end ≡ true
+pub proper : (r : KeyRange) → is_backwards r ≡ false → is_below r.begin r.end ≡ true
 proper r h = go (is_below r.begin r.end) h
   where
     go : (b : Bool) → not b ≡ false → b ≡ true
@@ -20,7 +20,7 @@ proper r h = go (is_below r.begin r.end) h
     go false e = not_both refl e
 
 -- a is no more than b, and b no more than c
-at_most_trans : (a b c : Bytes) → is_below b a ≡ false → is_below c b ≡ false → is_below c a ≡ false
+pub at_most_trans : (a b c : Bytes) → is_below b a ≡ false → is_below c b ≡ false → is_below c a ≡ false
 at_most_trans a b c h g = go (is_below c a) refl
   where
     go : (t : Bool) → is_below c a ≡ t → is_below c a ≡ false
@@ -333,7 +333,11 @@ abbrev IsNone : Option MapFault → Type 0
 IsNone None = Unit {0}
 IsNone (Some fault) = ⊥
 
-no_overlap : (out held : Option Bytes) → unless_inside out held ≡ None → held ≡ None
+pub no_outside : (out held : Option Bytes) → unless_inside out held ≡ None → out ≡ None
+no_outside None held e = refl
+no_outside (Some key) held e = absurd (subst IsNone (sym e) tt)
+
+pub no_overlap : (out held : Option Bytes) → unless_inside out held ≡ None → held ≡ None
 no_overlap None None e = refl
 no_overlap None (Some key) e = absurd (subst IsNone (sym e) tt)
 no_overlap (Some key) held e = absurd (subst IsNone (sym e) tt)

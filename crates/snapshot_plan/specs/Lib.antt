@@ -1,3 +1,4 @@
 pub mod Pieces
 pub mod Noted
 pub mod Laws
+pub mod Listing

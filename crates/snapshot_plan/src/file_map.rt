@@ -122,9 +122,17 @@ impl FileMap {
         })
     }
 
+    /// The ranges of the job.
+    pub fn ranges(&self) -> &Ranges
+        ensures { result.now ≡ self.now.ranges }
+    {
+        &self.ranges
+    }
+
     /// The noted pieces, in key order.
     pub fn noted(&self) -> &[Noted]
-        ensures { result.now ≡ self.now.noted }
+        ensures same { result.now ≡ self.now.noted }
+        ensures pieces { ArePieces (spec.pieces_of self.now.noted) }
     {
         &self.noted
     }

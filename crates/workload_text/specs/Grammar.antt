@@ -3,61 +3,82 @@ use Rattle.std.specs.Prelude.{◌≡◌, ℕ, ◌+◌, List, [], ◌∷◌, Opti
 use Rattle.fb_bytes.specs.Bytes.{Bytes}
 use Rattle.mutations.specs.declared.TxOp.{TxOp}
 use Rattle.mutations.specs.Transactions.{◌or_else◌}
-use Rattle.workload_text.specs.declared.schedule.ScheduleLine.{ScheduleLine}
 use Rattle.workload_text.specs.declared.client_script.ClientScript.{ClientScript}
-use Rattle.workload_text.specs.declared.client_script.Side.TheVariants.{Src}
+use Rattle.workload_text.specs.declared.client_script.Side.{Side}
+use Rattle.workload_text.specs.declared.command.Command.{Command}
+use Rattle.workload_text.specs.declared.line.Line.{Line}
+use Rattle.workload_text.specs.declared.line.Line.TheVariants.{Block, Client}
+use Rattle.workload_text.specs.declared.schedule.ScheduleLine.{ScheduleLine}
 use Rattle.workload_text.specs.declared.text_fault.TextFault.{TextFault}
 use Rattle.workload_text.specs.declared.text_fault.TextFault.TheVariants.{NotBuilt, NoMemory}
 use Rattle.workload_text.specs.declared.workload.Workload.{Workload}
 use Rattle.workload_text.specs.Texts.{lines_of}
 use Rattle.workload_text.specs.Lines.{Numbered, numbered}
-use Rattle.workload_text.specs.Parts.{Parts, parts_of, txns_of, first_op, bad_among, schedule_part, is_block_line, is_pace_line, is_client_line}
+use Rattle.workload_text.specs.Parts.{Parts, parts_of, txns_of, first_op, bad_among, Operated, operator_part, schedule_part, is_pace_line}
 
 -- what a text says
 pub record Built : Type 0 where
   pub block : ℕ
   pub pace : ℕ
   pub clients : List ClientScript
+  pub operator : List Command
   pub schedule : List ScheduleLine
 
 -- what a workload says
 abbrev pub what : Workload → Built
-what w = record { block = w.settings.block; pace = w.settings.pace; clients = w.clients; schedule = w.schedule }
+what w = record { block = w.settings.block; pace = w.settings.pace; clients = w.clients; operator = w.operator; schedule = w.schedule }
 
 -- the one client, where there is one
-abbrev pub clients_of : Option (List (List TxOp)) → List ClientScript
-clients_of None = []
-clients_of (Some txns) = record { number = 1; side = Src; txns = txns } ∷ []
+abbrev pub clients_of : Option Side → List (List TxOp) → List ClientScript
+clients_of None txns = []
+clients_of (Some side) txns = record { number = 1; side = side; txns = txns } ∷ []
 
-abbrev pub built_of : Option (List (List TxOp)) → List ScheduleLine → Built
-built_of txns schedule = record { block = 256; pace = 10; clients = clients_of txns; schedule = schedule }
+abbrev pub built_of : ℕ → List ClientScript → List Command → List ScheduleLine → Built
+built_of block clients commands schedule = record { block = block; pace = 10; clients = clients; operator = commands; schedule = schedule }
 
 -- with the schedule, if that has no line that isn't allowed
-abbrev pub scheduled : Option (List (List TxOp)) → Result (List ScheduleLine) ℕ → Result Built ℕ
-scheduled txns (Err number) = Err number
-scheduled txns (Ok schedule) = Ok (built_of txns schedule)
+abbrev pub scheduled : ℕ → List ClientScript → List Command → Result (List ScheduleLine) ℕ → Result Built ℕ
+scheduled block clients commands (Err number) = Err number
+scheduled block clients commands (Ok schedule) = Ok (built_of block clients commands schedule)
+
+-- with the commands, if they have no line that isn't allowed, and the schedule behind them
+abbrev pub operated : ℕ → List ClientScript → Result Operated ℕ → Result Built ℕ
+operated block clients (Err number) = Err number
+operated block clients (Ok o) = scheduled block clients o.commands (schedule_part o.rest)
+
+-- Behind the clients: the operator, then the schedule.
+abbrev pub behind_clients : ℕ → List ClientScript → List Numbered → Result Built ℕ
+behind_clients block clients lines = operated block clients (operator_part block lines)
 
 abbrev pub unless_bad : Option ℕ → Result Built ℕ → Result Built ℕ
 unless_bad None result = result
 unless_bad (Some number) result = Err number
 
--- Behind the client's line: transactions, with no operation before the first of them, then the schedule.
-abbrev pub client_part : Parts → Result Built ℕ
-client_part p = unless_bad (first_op p.leading or_else bad_among 0 p.txns) (scheduled (Some (txns_of p.txns)) (schedule_part p.rest))
+-- Behind the client's line: transactions, with no operation before the first of them, then what follows the clients.
+abbrev pub client_part : ℕ → Side → Parts → Result Built ℕ
+client_part block side p = unless_bad (first_op p.leading or_else bad_among block 0 p.txns) (behind_clients block (clients_of (Some side) (txns_of p.txns)) p.rest)
 
--- Behind the settings: the client, where there is one, and the schedule.
-abbrev pub behind_settings : List Numbered → Result Built ℕ
-behind_settings [] = Ok (built_of None [])
-behind_settings (l ∷ lines) = if is_client_line l.line then client_part (parts_of lines) else scheduled None (schedule_part (l ∷ lines))
+-- Behind the settings: the client, where there is one, and what follows the clients.
+abbrev pub first_part : ℕ → Line → ℕ → List Numbered → Result Built ℕ
+first_part block (Client side) number lines = client_part block side (parts_of lines)
+first_part block line number lines = behind_clients block [] (record { number = number; line = line } ∷ lines)
 
-abbrev pub behind_block : ℕ → List Numbered → Result Built ℕ
-behind_block end [] = Err end
-behind_block end (l ∷ lines) = if is_pace_line l.line then behind_settings lines else Err l.number
+abbrev pub behind_settings : ℕ → List Numbered → Result Built ℕ
+behind_settings block [] = Ok (built_of block [] [] [])
+behind_settings block (l ∷ lines) = first_part block l.line l.number lines
+
+abbrev pub behind_block : ℕ → ℕ → List Numbered → Result Built ℕ
+behind_block block end [] = Err end
+behind_block block end (l ∷ lines) = if is_pace_line l.line then behind_settings block lines else Err l.number
 
 -- the settings come first
+abbrev pub with_first : ℕ → Line → ℕ → List Numbered → Result Built ℕ
+with_first end (Block block) number lines = behind_block block end lines
+with_first end line number lines = Err number
+
 abbrev pub whole : ℕ → List Numbered → Result Built ℕ
 whole end [] = Err end
-whole end (l ∷ lines) = if is_block_line l.line then behind_block end lines else Err l.number
+whole end (l ∷ lines) = with_first end l.line l.number lines
 
 -- the most bytes of a text
 abbrev pub most_bytes : ℕ

@@ -1,4 +1,5 @@
 pub mod Scripts
+pub mod Commands
 pub mod Texts
 pub mod Lines
 pub mod Parts

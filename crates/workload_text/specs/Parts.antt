@@ -1,11 +1,12 @@
--- The parts of a text: its settings, its client, and its schedule; and what isn't allowed in each of them.
-use Rattle.std.specs.Prelude.{ℕ, ◌+◌, Bool, true, false, List, [], ◌∷◌, map, take, drop, Option, Some, None, is_some, Result, Ok, Err, nat_lt, if◌then◌else◌}
+-- The parts of a text behind its settings: its client, its operator and its schedule; and what isn't allowed in each of them.
+use Rattle.std.specs.Prelude.{ℕ, ◌+◌, Bool, true, false, ◌&&◌, List, [], ◌∷◌, map, take, drop, Option, Some, None, is_some, Result, Ok, Err, nat_lt, nat_le, if◌then◌else◌}
 use Rattle.block_frame.specs.Profiles.{key_limit_of, limit_of}
 use Rattle.mutations.specs.declared.TxOp.{TxOp}
 use Rattle.mutations.specs.Transactions.{tx_fault, ◌or_else◌}
+use Rattle.workload_text.specs.declared.command.Command.{Command}
 use Rattle.workload_text.specs.declared.schedule.ScheduleLine.{ScheduleLine}
 use Rattle.workload_text.specs.declared.line.Line.{Line}
-use Rattle.workload_text.specs.declared.line.Line.TheVariants.{Block, Pace, Client, Txn, Op, Schedule, Event}
+use Rattle.workload_text.specs.declared.line.Line.TheVariants.{Pace, Txn, Op, Operator, Order, Schedule, Event}
 use Rattle.workload_text.specs.Lines.{Numbered}
 
 -- ---- the client's part
@@ -42,22 +43,55 @@ ops_of ops = map (λ (o : Operation). o.op) ops
 abbrev pub txns_of : List Transaction → List (List TxOp)
 txns_of txns = map (λ (t : Transaction). ops_of t.ops) txns
 
--- a commit of these operations would be refused for what they are
-unfoldable pub is_refused : List TxOp → Bool
-is_refused ops = is_some (tx_fault (key_limit_of 256) (limit_of 256) ops)
+-- a commit of these operations would be refused for what they are, by the limits of the block
+unfoldable pub is_refused : ℕ → List TxOp → Bool
+is_refused block ops = is_some (tx_fault (key_limit_of block) (limit_of block) ops)
 
 abbrev pub first_op : List Operation → Option ℕ
 first_op [] = None
 first_op (o ∷ ops) = Some o.number
 
 -- A transaction has at most 10,000 operations. The line that begins it isn't allowed where a commit of them would be refused; else a further operation isn't.
-abbrev pub bad_in : Transaction → Option ℕ
-bad_in txn = if is_refused (take 10000 (ops_of txn.ops)) then Some txn.number else first_op (drop 10000 txn.ops)
+abbrev pub bad_in : ℕ → Transaction → Option ℕ
+bad_in block txn = if is_refused block (take 10000 (ops_of txn.ops)) then Some txn.number else first_op (drop 10000 txn.ops)
 
 -- a client has at most 100,000 transactions, of which some came before
-abbrev pub bad_among : ℕ → List Transaction → Option ℕ
-bad_among before [] = None
-bad_among before (txn ∷ txns) = if nat_lt before 100000 then bad_in txn or_else bad_among (before + 1) txns else Some txn.number
+abbrev pub bad_among : ℕ → ℕ → List Transaction → Option ℕ
+bad_among block before [] = None
+bad_among block before (txn ∷ txns) = if nat_lt before 100000 then bad_in block txn or_else bad_among block (before + 1) txns else Some txn.number
+
+-- ---- the operator's part
+
+-- the commands in front of some lines, and the lines behind them
+pub record Operated : Type 0 where
+  pub commands : List Command
+  pub rest : List Numbered
+
+-- the longest key of a command's line is within the block's limit
+abbrev pub is_short : ℕ → ℕ → Bool
+is_short block longest = nat_le longest (key_limit_of block)
+
+abbrev pub in_front_of : Command → Result Operated ℕ → Result Operated ℕ
+in_front_of command (Ok o) = Ok (record { commands = command ∷ o.commands; rest = o.rest })
+in_front_of command (Err number) = Err number
+
+-- an operator has at most 1,000 commands, of which some came before
+abbrev pub commands_with : ℕ → ℕ → Line → ℕ → List Numbered → Result Operated ℕ → Result Operated ℕ
+commands_with block before (Order command longest) number lines rest = if is_short block longest && nat_lt before 1000 then in_front_of command rest else Err number
+commands_with block before line number lines rest = Ok (record { commands = []; rest = record { number = number; line = line } ∷ lines })
+
+abbrev pub commands_of : ℕ → ℕ → List Numbered → Result Operated ℕ
+commands_of block before [] = Ok (record { commands = []; rest = [] })
+commands_of block before (l ∷ lines) = commands_with block before l.line l.number lines (commands_of block (before + 1) lines)
+
+abbrev pub is_operator : Line → Bool
+is_operator Operator = true
+is_operator line = false
+
+-- the operator may be missing
+abbrev pub operator_part : ℕ → List Numbered → Result Operated ℕ
+operator_part block [] = Ok (record { commands = []; rest = [] })
+operator_part block (l ∷ lines) = if is_operator l.line then commands_of block 0 lines else Ok (record { commands = []; rest = l ∷ lines })
 
 -- ---- the schedule
 
@@ -87,16 +121,8 @@ abbrev pub schedule_part : List Numbered → Result (List ScheduleLine) ℕ
 schedule_part [] = Ok []
 schedule_part (l ∷ lines) = if is_schedule l.line then events 0 lines else Err l.number
 
--- ---- the lines that other parts begin with
-
-abbrev pub is_block_line : Line → Bool
-is_block_line Block = true
-is_block_line line = false
+-- ---- the second setting
 
 abbrev pub is_pace_line : Line → Bool
 is_pace_line Pace = true
 is_pace_line line = false
-
-abbrev pub is_client_line : Line → Bool
-is_client_line Client = true
-is_client_line line = false

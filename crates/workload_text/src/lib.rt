@@ -2,7 +2,9 @@
 #![tactic(auto)]
 
 mod client_script;
+mod command;
 mod line;
+mod lists;
 mod pieces;
 mod reader;
 mod reading;
@@ -11,9 +13,11 @@ mod settings;
 #[cfg(test)]
 mod tests;
 mod text_fault;
+mod words;
 mod workload;
 
 pub use client_script::{ClientScript, Side};
+pub use command::Command;
 pub use reading::read_workload;
 pub use schedule::ScheduleLine;
 pub use settings::Settings;

@@ -29,6 +29,7 @@ fn line_len(text: &[u8]) -> usize
 pub fn first_word(line: &[u8]) -> Option<(&[u8], &[u8])>
     ensures some { IfSome result (λ x. words_of line.now ≡ x.0.now ∷ words_of x.1.now) }
     ensures long { IfSome result (λ x. 0 < length x.0.now) }
+    ensures shorter { IfSome result (λ x. length x.1.now < length line.now) }
     ensures none { IfNone result (words_of line.now ≡ []) }
 {
     let line = &line[spaces(line)..];

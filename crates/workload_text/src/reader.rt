@@ -1,29 +1,30 @@
-ghost use Rattle.std.specs.Prelude.{◌≡◌, true, Some, None, IfOk, if◌then◌else◌};
+ghost use Rattle.std.specs.Prelude.{◌≡◌, true, IfOk, OnOk};
+ghost use Rattle.block_frame.specs.Profiles.{key_limit_of, limit_of};
+ghost use Rattle.workload_text.specs.declared.reader.Place.TheVariants as places;
+ghost use Rattle.workload_text.specs.Commands.{IsWithin};
+ghost use Rattle.workload_text.specs.Lines.{IsSound};
 ghost use Rattle.workload_text.specs.Scripts.{are_numbered};
 ghost use Rattle.workload_text.specs.Parts.{is_refused};
 ghost use Rattle.workload_text.specs.Grammar.{what, clients_of, Gives};
 ghost use Rattle.workload_text.specs.Reader as spec;
+ghost use Rattle.workload_text.specs.Reader.{IsReady};
 
 use crate::line::Line;
-use crate::{ClientScript, ScheduleLine, Settings, Side, TextFault, Workload};
+use crate::{ClientScript, Command, ScheduleLine, Settings, Side, TextFault, Workload};
+use block_frame::Profile;
 use fb_bytes::Seq;
 use mutations::{TxOp, TxOps, fault_of};
 use std::alloc::{AllocError, Global};
 use std::mem;
 
-/// The block and the pace of the texts that are built, and the limits on keys and values that go
-/// with that block.
-const BLOCK: u32 = 256;
-
+/// The pace of the texts that are built.
 const PACE: u64 = 10;
-
-const KEY_LIMIT: usize = 24;
-
-const VALUE_LIMIT: usize = 64;
 
 const MOST_TXNS: usize = 100_000;
 
 const MOST_OPS: usize = 10_000;
+
+const MOST_COMMANDS: usize = 1_000;
 
 const MOST_EVENTS: usize = 1_000_000;
 
@@ -38,6 +39,8 @@ pub enum Place {
     Client,
     /// A line of a transaction that may go on, and that began in this line.
     Txn { line: u64 },
+    /// A line of the operator.
+    Operator,
     /// A line of the schedule.
     Schedule,
 }
@@ -46,29 +49,39 @@ pub enum Place {
 #[derive(Debug, Drop)]
 pub struct Reader {
     place: Place,
-    has_client: bool,
+    /// The block of the first line. Before it has come, it says nothing.
+    block: u32,
+    /// The client's database, where there is a client.
+    client: Option<Side>,
     txns: Seq<TxOps>,
     /// The operations of the transaction that may go on.
     ops: TxOps,
+    operator: Seq<Command>,
     schedule: Seq<ScheduleLine>,
 }
 
 impl Reader {
     pub fn new(alloc: Global) -> Self
-        ensures { result ≡ spec.at_start }
+        ensures start { result ≡ spec.at_start }
+        ensures ready { IsReady result }
     {
         Reader {
             place: Place::Start,
-            has_client: false,
+            block: 256,
+            client: None,
             txns: Seq::new(alloc),
             ops: TxOps::new(alloc),
+            operator: Seq::new(alloc),
             schedule: Seq::new(alloc),
         }
     }
 
     /// Takes the next line. After an `Err` the reader is of no use.
     pub fn take(&mut self, alloc: Global, number: u64, line: Line) -> Result<(), TextFault>
-        ensures { Gives (λ _. self.new) result (spec.with_line number line self.old) }
+        requires line { IsSound line }
+        requires ready { IsReady self.old }
+        ensures takes { Gives (λ _. self.new) result (spec.with_line number line self.old) }
+        ensures ready { OnOk result (IsReady self.new) }
     {
         match line {
             Line::Op(op) => self.take_op(number, op),
@@ -80,7 +93,9 @@ impl Reader {
     }
 
     fn take_op(&mut self, number: u64, op: TxOp) -> Result<(), TextFault>
-        ensures { Gives (λ _. self.new) result (spec.with_op number op self.old.place self.old) }
+        requires { IsReady self.old }
+        ensures takes { Gives (λ _. self.new) result (spec.with_op number op self.old.place self.old) }
+        ensures ready { OnOk result (IsReady self.new) }
     {
         let Place::Txn { line } = self.place else {
             return Err(TextFault::NotBuilt { line: number });
@@ -89,34 +104,45 @@ impl Reader {
             self.ops.push(op)?;
             return Ok(());
         }
-        if is_refused(&self.ops) {
+        if is_refused(self.block, &self.ops) {
             return Err(TextFault::NotBuilt { line });
         }
         Err(TextFault::NotBuilt { line: number })
     }
 
     fn take_part(&mut self, number: u64, line: Line) -> Result<(), TextFault>
-        ensures { Gives (λ _. self.new) result (spec.with_part number line self.old.place self.old) }
+        requires line { IsSound line }
+        requires ready { IsReady self.old }
+        ensures takes { Gives (λ _. self.new) result (spec.with_part number line self.old.place self.old) }
+        ensures ready { OnOk result (IsReady self.new) }
     {
         match (self.place, line) {
-            (Place::Start, Line::Block) => {
+            (Place::Start, Line::Block(block)) => {
                 self.place = Place::Block;
+                self.block = block;
                 Ok(())
             }
             (Place::Block, Line::Pace) => {
                 self.place = Place::Pace;
                 Ok(())
             }
-            (Place::Pace, Line::Client) => {
+            (Place::Pace, Line::Client(side)) => {
                 self.place = Place::Client;
-                self.has_client = true;
+                self.client = Some(side);
                 Ok(())
             }
             (Place::Client, Line::Txn) if self.txns.len() < MOST_TXNS => {
                 self.place = Place::Txn { line: number };
                 Ok(())
             }
-            (Place::Pace | Place::Client, Line::Schedule) => {
+            (Place::Pace | Place::Client, Line::Operator) => {
+                self.place = Place::Operator;
+                Ok(())
+            }
+            (Place::Operator, Line::Order { command, longest }) => {
+                self.take_command(number, command, longest)
+            }
+            (Place::Pace | Place::Client | Place::Operator, Line::Schedule) => {
                 self.place = Place::Schedule;
                 Ok(())
             }
@@ -128,14 +154,35 @@ impl Reader {
         }
     }
 
+    fn take_command(
+        &mut self,
+        number: u64,
+        command: Command,
+        longest: usize,
+    ) -> Result<(), TextFault>
+        requires within { IsWithin longest command }
+        requires ready { IsReady self.old }
+        requires place { self.old.place ≡ places.Operator }
+        ensures takes { Gives (λ _. self.new) result (spec.with_command number command longest self.old) }
+        ensures ready { OnOk result (IsReady self.new) }
+    {
+        if longest <= key_limit(self.block) && self.operator.len() < MOST_COMMANDS {
+            self.operator.push(command)?;
+            return Ok(());
+        }
+        Err(TextFault::NotBuilt { line: number })
+    }
+
     /// Keeps the transaction that might have gone on, if there is one.
     fn close(&mut self, alloc: Global) -> Result<(), TextFault>
-        ensures { Gives (λ _. self.new) result (spec.closed self.old) }
+        requires { IsReady self.old }
+        ensures closes { Gives (λ _. self.new) result (spec.closed self.old) }
+        ensures ready { OnOk result (IsReady self.new) }
     {
         let Place::Txn { line } = self.place else {
             return Ok(());
         };
-        if is_refused(&self.ops) {
+        if is_refused(self.block, &self.ops) {
             return Err(TextFault::NotBuilt { line });
         }
         let ops = mem::replace(&mut self.ops, TxOps::new(alloc));
@@ -146,6 +193,7 @@ impl Reader {
 
     /// What all lines say, where `end` is the number after the last one.
     pub fn finish(mut self, alloc: Global, end: u64) -> Result<Workload, TextFault>
+        requires { IsReady self }
         ensures { Gives what result (spec.finished end self) }
     {
         self.close(alloc)?;
@@ -153,25 +201,26 @@ impl Reader {
     }
 
     fn workload(self, alloc: Global, end: u64) -> Result<Workload, TextFault>
+        requires { IsReady self }
         ensures { Gives what result (spec.at_end end self.place self) }
     {
         if let Place::Start | Place::Block = self.place {
             return Err(TextFault::NotBuilt { line: end });
         }
         let Reader {
-            has_client,
+            block,
+            client,
             txns,
+            operator,
             schedule,
             ..
         } = self;
-        let clients = clients(alloc, has_client, txns)?;
-        let settings = Settings {
-            block: BLOCK,
-            pace: PACE,
-        };
+        let clients = clients(alloc, client, txns)?;
+        let settings = Settings { block, pace: PACE };
         Ok(Workload {
             settings,
             clients,
+            operator,
             schedule,
         })
     }
@@ -179,26 +228,46 @@ impl Reader {
 
 /// Whether a commit of these operations would be refused for what they are.
 #[tactic(auto, unfolding(crate::specs::Parts::is_refused))]
-fn is_refused(ops: &TxOps) -> bool
-    ensures { result ≡ is_refused ops.now }
+fn is_refused(block: u32, ops: &TxOps) -> bool
+    ensures { result ≡ is_refused block ops.now }
 {
-    fault_of(ops.as_slice(), KEY_LIMIT, VALUE_LIMIT).is_some()
+    fault_of(ops.as_slice(), key_limit(block), value_limit(block)).is_some()
+}
+
+/// The greatest length of a key, which is 0 for a block that isn't one of the four.
+fn key_limit(block: u32) -> usize
+    ensures { result ≡ key_limit_of block }
+{
+    match Profile::from_block(block) {
+        Some(profile) => profile.key,
+        None => 0,
+    }
+}
+
+/// The greatest length of a value, which is 0 for a block that isn't one of the four.
+fn value_limit(block: u32) -> usize
+    ensures { result ≡ limit_of block }
+{
+    match Profile::from_block(block) {
+        Some(profile) => profile.value,
+        None => 0,
+    }
 }
 
 /// The client with these transactions, where there is one.
 fn clients(
     alloc: Global,
-    has_client: bool,
+    client: Option<Side>,
     txns: Seq<TxOps>,
 ) -> Result<Seq<ClientScript>, AllocError>
-    ensures same { IfOk result (λ clients. clients ≡ clients_of (if has_client then Some txns else None)) }
+    ensures same { IfOk result (λ clients. clients ≡ clients_of client txns) }
     ensures numbered { IfOk result (λ clients. are_numbered 1 clients ≡ true) }
 {
     let mut clients = Seq::new(alloc);
-    if has_client {
+    if let Some(side) = client {
         clients.push(ClientScript {
             number: 1,
-            side: Side::Src,
+            side,
             txns,
         })?;
     }

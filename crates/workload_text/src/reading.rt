@@ -1,10 +1,10 @@
-ghost use Rattle.std.specs.Prelude.{Ok, Err, IfOk, ◌≡◌, ◌<◌, ◌^◌, ◌+◌, length};
+ghost use Rattle.std.specs.Prelude.{Ok, Err, IfOk, OnOk, ◌≡◌, ◌<◌, ◌^◌, ◌+◌, length};
 ghost use Rattle.workload_text.specs.Texts.{lines_of};
 ghost use Rattle.workload_text.specs.Lines.{numbered};
 ghost use Rattle.workload_text.specs.Lines as lines;
 ghost use Rattle.workload_text.specs.Grammar.{Built, what, whole, built, most_bytes, Gives};
 ghost use Rattle.workload_text.specs.Spelled.{IsTextOf};
-ghost use Rattle.workload_text.specs.Reader.{with_said};
+ghost use Rattle.workload_text.specs.Reader.{IsReady, with_said};
 
 use crate::line::said;
 use crate::pieces::first_line;
@@ -55,7 +55,9 @@ fn read_lines(alloc: Global, text: &[u8]) -> Result<Workload, TextFault>
 }
 
 fn take_line(alloc: Global, reader: &mut Reader, number: u64, line: &[u8]) -> Result<(), TextFault>
-    ensures { Gives (λ _. reader.new) result (with_said number (lines.said line.now) reader.old) }
+    requires { IsReady reader.old }
+    ensures takes { Gives (λ _. reader.new) result (with_said number (lines.said line.now) reader.old) }
+    ensures ready { OnOk result (IsReady reader.new) }
 {
     match said(alloc, line)? {
         Some(line) => reader.take(alloc, number, line),

@@ -6,6 +6,8 @@ use std::alloc::AllocError;
 pub enum ScheduleLine {
     Begin { client: u32 },
     Commit { client: u32 },
+    /// The operator's next step.
+    Op,
 }
 
 impl TryCopy for ScheduleLine {

@@ -1,7 +1,9 @@
 ghost use Rattle.std.specs.Prelude.{◌≡◌, true};
+ghost use Rattle.std.specs.List.{AllByRecursion, AllByRecursion-prop};
 ghost use Rattle.workload_text.specs.Scripts.{are_numbered};
+ghost use Rattle.workload_text.specs.Commands.{IsCommand, IsCommand-prop};
 
-use crate::{ClientScript, ScheduleLine, Settings};
+use crate::{ClientScript, Command, ScheduleLine, Settings};
 use fb_bytes::{Seq, TryCopy};
 use std::alloc::AllocError;
 
@@ -11,17 +13,22 @@ pub struct Workload {
     pub settings: Settings,
     /// In the order of their numbers.
     pub clients: Seq<ClientScript>,
+    /// In their order.
+    pub operator: Seq<Command>,
     pub schedule: Seq<ScheduleLine>,
     pub ghost numbered: { are_numbered 1 clients ≡ true },
+    pub ghost operator_allowed: { AllByRecursion (IsCommand settings.block) operator } by { AllByRecursion-prop (IsCommand settings.block) (IsCommand-prop settings.block) operator },
 }
 
 impl TryCopy for Workload {
     fn copy(&self) -> Result<Self, AllocError> {
         let clients = self.clients.copy()?;
+        let operator = self.operator.copy()?;
         let schedule = self.schedule.copy()?;
         Ok(Workload {
             settings: self.settings,
             clients,
+            operator,
             schedule,
         })
     }

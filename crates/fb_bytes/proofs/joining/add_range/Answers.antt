@@ -1,5 +1,6 @@
 use Rattle.std.proofs.Common.{sym, ◌∙◌}
-use Rattle.fb_bytes.proofs.Unions.{joins, with_range, all_passed}
+use Rattle.fb_bytes.specs.Joining.{with_range}
+use Rattle.fb_bytes.proofs.Unions.{joins, all_passed}
 use Rattle.fb_bytes.proofs.joining.add_range.Goals as goal
 
 pub returns : goal.returns

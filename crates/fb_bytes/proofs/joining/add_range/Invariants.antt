@@ -1,5 +1,5 @@
 use Rattle.std.proofs.Common.{◌≡◌, ◌++◌, length}
-use Rattle.fb_bytes.proofs.Unions.{with_range}
+use Rattle.fb_bytes.specs.Joining.{with_range}
 use Rattle.fb_bytes.proofs.joining.add_range.Given as goal
 
 abbrev pub invariant-loop-next : goal.invariant-loop-next

@@ -1,6 +1,7 @@
 use Rattle.std.proofs.Common.{ap, ◌∙◌}
 use Rattle.fb_bytes.specs.Keys.{is_backwards}
 use Rattle.fb_bytes.proofs.Places.{sound_list}
+use Rattle.fb_bytes.proofs.Joined.{is_joined}
 use Rattle.fb_bytes.proofs.Unions.{none_joined, one_joined, all_joined}
 use Rattle.fb_bytes.proofs.ranges.joined.Goals as goal
 
@@ -17,6 +18,9 @@ returns-clause-union c = (all_joined c.args.list.now c.loop-range.ranges.items c
 
 pub returns-clause-ranges : goal.returns-clause-ranges
 returns-clause-ranges c = (all_joined c.args.list.now c.loop-range.ranges.items c.loop-range.range-index (sound_list c.args.list.now c.requires) c.loop-range-test.false c.loop-range.auto.range-index-end c.loop-range.invariant).1
+
+pub returns-clause-joined : goal.returns-clause-joined
+returns-clause-joined c = is_joined c.args.list.now c.loop-range.ranges.items c.requires (returns-clause-ranges c) (returns-clause-union c)
 
 pub add_range-requires-clause-forward : goal.add_range-requires-clause-forward
 add_range-requires-clause-forward c =

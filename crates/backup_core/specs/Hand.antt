@@ -1,0 +1,68 @@
+-- A hand job: a job whose dumps, cuts and seals are called one by one.
+use Rattle.std.specs.Prelude.{ℕ, ◌+◌, Bool, true, false, List, [], ◌∷◌, unwrap_or}
+use Rattle.fb_bytes.specs.Bytes.{Bytes}
+use Rattle.fb_bytes.specs.declared.KeyRange.{KeyRange}
+use Rattle.file_names.specs.declared.Name.{Name}
+use Rattle.file_names.specs.declared.Name.TheVariants.{Range, Log}
+use Rattle.file_names.specs.Spelling.{spelling}
+use Rattle.manifests.specs.Grammar.{name_for}
+use Rattle.snapshot_plan.specs.declared.Done.{Done}
+use Rattle.snapshot_plan.specs.declared.Noted.{Noted}
+use Rattle.snapshot_plan.specs.Noted.{Map, with_noted, manifest_of}
+
+-- what contracts see of a hand job
+pub record HandJob : Type 0 where
+  -- its ranges, and the pieces noted for the present snapshot
+  pub map : Map
+  -- the version from which on it logs
+  pub begin : ℕ
+  -- the first version that no log file of it has yet
+  pub next : ℕ
+  -- the version of the first dump of the present snapshot
+  pub snapshot : ℕ
+  pub aborted : Bool
+
+-- a job of these ranges that logs from the version on and has dumped nothing
+abbrev pub opened : List KeyRange → ℕ → HandJob
+opened ranges version = record { map = record { ranges = ranges; noted = [] }; begin = version; next = version; snapshot = 0; aborted = false }
+
+-- the first where no piece is noted, else the second
+abbrev pub begun_at : List Noted → ℕ → ℕ → ℕ
+begun_at [] now begun = now
+begun_at (one ∷ noted) now begun = begun
+
+-- the number of the snapshot that a dump at this version belongs to: the version, where it is the first
+abbrev pub snapshot_at : HandJob → ℕ → ℕ
+snapshot_at job now = begun_at job.map.noted now job.snapshot
+
+-- the name of a range file that is dumped at this version
+abbrev pub range_name : HandJob → ℕ → ℕ → ℕ → Name
+range_name job now ticket block = Range (snapshot_at job now) now ticket block
+
+-- the name of the log file from where the last one ended through this version
+abbrev pub log_name : HandJob → ℕ → ℕ → ℕ → Name
+log_name job now ticket block = Log job.next (now + 1) ticket block
+
+-- the name of the manifest of the present snapshot
+abbrev pub manifest_name : HandJob → ℕ → Name
+manifest_name job ticket = name_for (manifest_of job.map.noted) ticket
+
+-- the spelling of a name, empty where there is none
+abbrev pub text_of : Name → Bytes
+text_of name = unwrap_or (spelling name) []
+
+-- the job once a piece was dumped at this version into this file
+abbrev pub dumped : HandJob → KeyRange → ℕ → Done → HandJob
+dumped job piece now file = record job { snapshot = snapshot_at job now; map = record job.map { noted = with_noted (record { piece = piece; file = file }) job.map.noted } }
+
+-- the job once its log files reach through this version
+abbrev pub cut_to : HandJob → ℕ → HandJob
+cut_to job now = record job { next = now + 1 }
+
+-- the job once its snapshot is sealed: the next one begins with no piece
+abbrev pub sealed : HandJob → HandJob
+sealed job = record job { map = record job.map { noted = [] } }
+
+-- the job once it is given up
+abbrev pub aborted_job : HandJob → HandJob
+aborted_job job = record job { aborted = true }

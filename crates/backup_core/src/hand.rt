@@ -1,0 +1,168 @@
+//! What a hand job keeps between its calls.
+
+ghost use Rattle.std.specs.Prelude.{◌≡◌, ◌+◌, ◌<◌, ◌^◌, false, Some, None, IfOk, IfErr, OnOk, option_map, ◌⊎◌};
+ghost use Rattle.fb_bytes.specs.Keys.{is_backwards};
+ghost use Rattle.manifests.specs.Grammar.{name_for};
+ghost use Rattle.snapshot_plan.specs.Noted.{fault_of, gap, manifest_of, pieces_of};
+ghost use Rattle.snapshot_plan.specs.Pieces.{ArePieces};
+ghost use Rattle.backup_core.specs.Hand as spec;
+
+use fb_bytes::{KeyRange, Ranges};
+use manifests::Manifest;
+use snapshot_plan::{Done, FileMap, MapFault, Noted};
+use std::alloc::{AllocError, Global};
+use std::marker::Model;
+
+/// A job whose dumps, cuts and seals are called one by one: what is dumped of its present snapshot,
+/// and how far it logged.
+#[derive(Debug, Drop)]
+pub struct HandJob {
+    map: FileMap,
+    begin: u64,
+    next: u64,
+    snapshot: u64,
+    aborted: bool,
+}
+
+impl Model for HandJob {
+    ghost use Rattle.backup_core.specs.Hand as spec;
+
+    ghost Value = { spec.HandJob };
+
+    ghost view = { λ h. record { map = h.map; begin = h.begin; next = h.next; snapshot = h.snapshot; aborted = h.aborted } };
+}
+
+impl HandJob {
+    /// A job of these ranges that logs from the version on.
+    pub fn new(alloc: Global, ranges: &Ranges, version: u64) -> Result<Self, AllocError>
+        ensures { IfOk result (λ job. job ≡ spec.opened ranges.now version) }
+    {
+        let map = FileMap::new(alloc, ranges)?;
+        Ok(HandJob {
+            map,
+            begin: version,
+            next: version,
+            snapshot: 0,
+            aborted: false,
+        })
+    }
+
+    /// The ranges that it backs up.
+    pub fn ranges(&self) -> &Ranges
+        ensures { result.now ≡ self.now.map.ranges }
+    {
+        self.map.ranges()
+    }
+
+    /// The pieces that are noted for the present snapshot, in key order.
+    pub fn noted(&self) -> &[Noted]
+        ensures same { result.now ≡ self.now.map.noted }
+        ensures pieces { ArePieces (pieces_of self.now.map.noted) }
+    {
+        self.map.noted()
+    }
+
+    /// The version from which on it logs.
+    pub fn begin(&self) -> u64
+        ensures { result ≡ self.now.begin }
+    {
+        self.begin
+    }
+
+    /// The first version that no log file of it has yet.
+    pub fn next(&self) -> u64
+        ensures { result ≡ self.now.next }
+    {
+        self.next
+    }
+
+    /// Whether it was given up.
+    pub fn is_aborted(&self) -> bool
+        ensures { result ≡ self.now.aborted }
+    {
+        self.aborted
+    }
+
+    /// The number of the snapshot that a dump at this version belongs to.
+    pub fn snapshot_at(&self, now: u64) -> u64
+        ensures { result ≡ spec.snapshot_at self.now now }
+    {
+        if self.map.noted().is_empty() {
+            now
+        } else {
+            self.snapshot
+        }
+    }
+
+    /// Why the piece can't be dumped, if it can't.
+    pub fn check(&self, piece: &KeyRange) -> Result<(), MapFault>
+        ensures ok { OnOk result (fault_of self.now.map piece.now ≡ None) }
+        ensures err { IfErr result (λ fault. (fault ≡ MapFault.NoMemory) ⊎ (fault_of self.now.map piece.now ≡ Some fault)) }
+    {
+        self.map.check(piece)
+    }
+
+    /// The job with a piece more, which was dumped at this version into the file. This one stays as it
+    /// is, for the case that the file is refused.
+    pub fn with_dump(&self, piece: &KeyRange, now: u64, file: Done) -> Result<HandJob, MapFault>
+        requires { is_backwards piece.now ≡ false }
+        ensures ok { OnOk result (fault_of self.now.map piece.now ≡ None) }
+        ensures err { IfErr result (λ fault. (fault ≡ MapFault.NoMemory) ⊎ (fault_of self.now.map piece.now ≡ Some fault)) }
+        ensures dumped { IfOk result (λ job. job ≡ spec.dumped self.now piece.now now file) }
+    {
+        let snapshot = self.snapshot_at(now);
+        let mut map = self.map.copy()?;
+        map.done(piece.copy()?, file)?;
+        Ok(HandJob {
+            map,
+            begin: self.begin,
+            next: self.next,
+            snapshot,
+            aborted: self.aborted,
+        })
+    }
+
+    /// The manifest of the present snapshot, once its pieces tile the ranges.
+    pub fn manifest(&self) -> Result<Manifest, MapFault>
+        ensures ok { IfOk result (λ manifest. (gap self.now.map ≡ None) × (manifest ≡ manifest_of self.now.map.noted)) }
+        ensures err { IfErr result (λ fault. (fault ≡ MapFault.NoMemory) ⊎ (option_map (λ key. MapFault.Untiled key) (gap self.now.map) ≡ Some fault)) }
+    {
+        self.map.manifest()
+    }
+
+    /// Its log files reach through this version. It takes no memory.
+    pub fn cut_to(&mut self, now: u64)
+        requires { now + 1 < 2 ^ 64 }
+        ensures { self.new ≡ spec.cut_to self.old now }
+    {
+        self.next = now + 1;
+    }
+
+    /// Its snapshot is sealed, and the next one begins with no piece. It takes no memory.
+    pub fn seal(&mut self)
+        ensures { self.new ≡ spec.sealed self.old }
+    {
+        self.map.clear();
+    }
+
+    /// It is given up. It takes no memory.
+    pub fn abort(&mut self)
+        ensures { self.new ≡ spec.aborted_job self.old }
+    {
+        self.aborted = true;
+    }
+
+    /// An equal job with memory of its own.
+    pub fn copy(&self) -> Result<Self, AllocError>
+        ensures { IfOk result (λ job. job ≡ self.now) }
+    {
+        let map = self.map.copy()?;
+        Ok(HandJob {
+            map,
+            begin: self.begin,
+            next: self.next,
+            snapshot: self.snapshot,
+            aborted: self.aborted,
+        })
+    }
+}

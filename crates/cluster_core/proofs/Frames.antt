@@ -1,0 +1,144 @@
+-- The ways in which a step of the operator changes a state, each of which keeps what is sound.
+use Rattle.std.specs.Prelude.{◌≡◌, ℕ, ◌+◌, ◌≤◌, Bool, true, false, List, Option, Some, None, slice_get, slice_set, refl}
+use Rattle.std.specs.List.{AllByRecursion}
+use Rattle.std.proofs.Common.{ap, sym, ◌∙◌, inl, inr, arith, subst}
+use Rattle.fb_bytes.specs.Bytes.{Bytes, is_same}
+use Rattle.fb_outside.specs.declared.File.{File}
+use Rattle.fb_outside.specs.Files.{file_of, with_file}
+use Rattle.file_names.specs.Reading.{name_of}
+use Rattle.container_view.specs.Contents.{file_grammars}
+use Rattle.container_view.specs.Files.{whole_name}
+use Rattle.container_view.specs.Honest.{IsHonestFile, listed_by}
+use Rattle.workload_text.specs.declared.Workload.{Workload}
+use Rattle.database.specs.Commits.{most_version}
+use Rattle.backup_core.specs.Hand.{HandJob}
+use Rattle.cluster_core.specs.Jobs.{Job}
+use Rattle.cluster_core.specs.State.{State, history_on, with_job, with_put}
+use Rattle.cluster_core.specs.Commands.{gone_on}
+use Rattle.cluster_core.specs.Sound.{IsDrawn, IsJobSound, IsStored, AreStored, AreApart, Sound, source_of}
+use Rattle.cluster_core.proofs.Lists.{same_or_other}
+use Rattle.cluster_core.proofs.All.{each_set}
+use Rattle.cluster_core.proofs.Known.{Known}
+use Rattle.cluster_core.proofs.Grown.{job_grown, stored_grown, waits}
+use Rattle.cluster_core.proofs.Puts.{IsFresh, stored_put, stored_elsewhere}
+
+-- ---- the operator goes on
+
+pub sound_gone : (p : Workload) (w : State) → Sound p w → Sound p (gone_on w)
+sound_gone p w h = record {
+  bound = h.bound;
+  histories = h.histories;
+  within = h.within;
+  scripts_are = h.scripts_are;
+  clients = h.clients;
+  tickets = h.tickets;
+  jobs = h.jobs;
+  apart = h.apart;
+  stored = λ files e. let s = h.stored files e in record { ordered = s.ordered; each = s.each };
+}
+
+-- ---- a ticket is drawn
+
+pub sound_drawn : (k : Known) (p : Workload) (w : State) → w.tickets ≤ most_version → Sound p w → Sound p (record w { tickets = w.tickets + 1 })
+sound_drawn k p w d h = record {
+  bound = h.bound;
+  histories = h.histories;
+  within = h.within;
+  scripts_are = h.scripts_are;
+  clients = h.clients;
+  tickets = omega arith;
+  jobs = λ place job e. let j = h.jobs place job e in job_grown p.settings.block w.time w.time w.tickets (w.tickets + 1) (history_on job.side w) (history_on job.side w) job (same w.time) (more w.tickets) j.logged j;
+  apart = h.apart;
+  stored = λ files e.
+      let s = h.stored files e in
+      record { ordered = s.ordered; each = λ place job at. stored_grown k p.settings.block w.time w.time w.tickets (w.tickets + 1) (history_on job.side w) (history_on job.side w) files job (waits p.settings.block w.time w.time (history_on job.side w) job (same w.time)) (more w.tickets) (s.each place job at) };
+}
+  where
+    same : (n : ℕ) → n ≤ n
+    same n = omega arith
+
+    more : (n : ℕ) → n ≤ n + 1
+    more n = omega arith
+
+-- ---- a file is put
+
+-- what a put into a job's container owes
+pub record IsGood (p : Workload) (w : State) (job : Job) (name bytes : Bytes) (files : List File) : Type 0 where
+  pub honest : (st : IsStored p.settings.block w.time w.tickets (history_on job.side w) files job) → IsHonestFile file_grammars (source_of p.settings.block w.time (history_on job.side w) job) st.honest.folder name bytes (name_of name)
+  pub lists : (names : List Bytes) → listed_by file_grammars (name_of name) bytes ≡ Some names → AllByRecursion (IsDrawn w.tickets) names
+
+file_put : (whole bytes : Bytes) (o : Option (List File)) (files : List File) → with_put whole bytes o ≡ Some files → (before : List File) × (o ≡ Some before) × (with_file before whole bytes ≡ files)
+file_put whole bytes None files e = cc
+file_put whole bytes (Some before) files e = (before, refl, some_is (with_file before whole bytes) files e)
+  where
+    some_is : (a b : List File) → Some a ≡ Some b → a ≡ b
+    some_is a b q = cc
+
+stored_each : (k : Known) (p : Workload) (w : State) (place : ℕ) (job : Job) (name bytes : Bytes) (files : List File) → Sound p w → slice_get w.jobs place ≡ Some job → IsFresh w.tickets name → AreStored p.settings.block w files → IsGood p w job name bytes files → (m : ℕ) (x : Job) → slice_get w.jobs m ≡ Some x → IsStored p.settings.block w.time w.tickets (history_on x.side w) (with_file files (whole_name job.container name) bytes) x
+stored_each k p w place job name bytes files h at fresh s good m x e =
+    elim (same_or_other place m) [
+      | inl i ↦
+          let same : job ≡ x = some_is job x (sym at ∙ ap (slice_get w.jobs) i ∙ e) in
+          let st = s.each place job at in
+          subst (λ (y : Job). IsStored p.settings.block w.time w.tickets (history_on y.side w) (with_file files (whole_name job.container name) bytes) y) same
+          (stored_put k p.settings.block w.time w.tickets (history_on job.side w) files job name bytes s.ordered fresh (h.jobs place job at).noted st (good.honest st) good.lists)
+      | inr d ↦ stored_elsewhere k p.settings.block w.time w.tickets (history_on x.side w) files x (whole_name job.container name) bytes (k.files.apart job.container x.container name (h.jobs place job at).named (h.jobs m x e).named (not_same job.container x.container (λ t. d (h.apart place m job x at e t)))) (s.each m x e)
+    ]
+  where
+    some_is : (a b : Job) → Some a ≡ Some b → a ≡ b
+    some_is a b q = cc
+
+    not_same : (a b : Bytes) → (is_same a b ≡ true → ⊥) → is_same a b ≡ false
+    not_same a b f = go (is_same a b) refl
+      where
+        go : (t : Bool) → is_same a b ≡ t → is_same a b ≡ false
+        go true q = absurd (f q)
+        go false q = q
+
+pub sound_filed : (k : Known) (p : Workload) (w : State) (place : ℕ) (job : Job) (name bytes : Bytes) → Sound p w → slice_get w.jobs place ≡ Some job → IsFresh w.tickets name → ((files : List File) → w.files ≡ Some files → IsGood p w job name bytes files) → Sound p (record w { files = with_put (whole_name job.container name) bytes w.files })
+sound_filed k p w place job name bytes h at fresh good = record {
+  bound = h.bound;
+  histories = h.histories;
+  within = h.within;
+  scripts_are = h.scripts_are;
+  clients = h.clients;
+  tickets = h.tickets;
+  jobs = h.jobs;
+  apart = h.apart;
+  stored = λ files e.
+      let b = file_put (whole_name job.container name) bytes w.files files e in
+      let s = h.stored b.0 b.1 in
+      subst (λ (fs : List File). AreStored p.settings.block (record w { files = with_put (whole_name job.container name) bytes w.files }) fs) b.2
+      (record { ordered = k.files.ordered b.0 (whole_name job.container name) bytes s.ordered; each = stored_each k p w place job name bytes b.0 h at fresh s (good b.0 b.1) });
+}
+
+-- the file is there then
+pub put_there : (k : Known) (whole bytes : Bytes) (o : Option (List File)) (files : List File) → with_put whole bytes o ≡ Some files → file_of files whole ≡ Some bytes
+put_there k whole bytes o files e =
+    let b = file_put whole bytes o files e in
+    subst (λ (fs : List File). file_of fs whole ≡ Some bytes) b.2 (k.files.put_same b.0 whole bytes)
+
+-- ---- a job changes
+
+-- two jobs at one place, before and after, have one container
+apart_set : (jobs : List Job) (place : ℕ) (old new : Job) → slice_get jobs place ≡ Some old → new.container ≡ old.container → AreApart jobs → AreApart (slice_set jobs place new)
+apart_set jobs place old new at c h a b first second e f =
+    each_set (λ m x. is_same x.container second.container ≡ true → m ≡ b) jobs place old new at
+    (λ s. each_set (λ n y. is_same new.container y.container ≡ true → place ≡ n) jobs place old new at (λ t. refl) (λ n y d g t. h place n old y at g (ap (λ (z : Bytes). is_same z y.container) (sym c) ∙ t)) b second f s)
+    (λ m x d g s. each_set (λ n y. is_same x.container y.container ≡ true → m ≡ n) jobs place old new at (λ t. h m place x old g at (ap (λ (z : Bytes). is_same x.container z) (sym c) ∙ t)) (λ n y d' g' t. h m n x y g g' t) b second f s)
+    a first e
+
+pub sound_changed : (p : Workload) (w : State) (place : ℕ) (old : Job) (hand : HandJob) → Sound p w → slice_get w.jobs place ≡ Some old → IsJobSound p.settings.block w.time w.tickets (history_on old.side w) (record old { hand = hand }) → ((files : List File) → w.files ≡ Some files → IsStored p.settings.block w.time w.tickets (history_on old.side w) files (record old { hand = hand })) → Sound p (with_job place (record old { hand = hand }) w)
+sound_changed p w place old hand h at j s = record {
+  bound = h.bound;
+  histories = h.histories;
+  within = h.within;
+  scripts_are = h.scripts_are;
+  clients = h.clients;
+  tickets = h.tickets;
+  jobs = each_set (λ m x. IsJobSound p.settings.block w.time w.tickets (history_on x.side w) x) w.jobs place old (record old { hand = hand }) at j (λ m x d e. h.jobs m x e);
+  apart = apart_set w.jobs place old (record old { hand = hand }) at refl h.apart;
+  stored = λ files e.
+      let t = h.stored files e in
+      record { ordered = t.ordered; each = each_set (λ m x. IsStored p.settings.block w.time w.tickets (history_on x.side w) files x) w.jobs place old (record old { hand = hand }) at (s files e) (λ m x d f. t.each m x f) };
+}

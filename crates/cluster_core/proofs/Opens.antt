@@ -1,0 +1,182 @@
+-- A job that is opened keeps what is sound.
+use Rattle.std.specs.Prelude.{◌≡◌, ℕ, zero, suc, ◌+◌, ◌^◌, ◌<◌, ◌≤◌, Bool, true, false, cond, List, [], ◌∷◌, ◌++◌, length, map, Option, Some, None, nat_lt, slice_get, Err, refl}
+use Rattle.std.specs.List.{AllByRecursion}
+use Rattle.std.proofs.Common.{ap, sym, ◌∙◌, arith, subst}
+use Rattle.std.proofs.lemmas.Bool.{ltb-false}
+use Rattle.fb_bytes.specs.Bytes.{Bytes, is_same}
+use Rattle.fb_bytes.specs.declared.KeyRange.{KeyRange}
+use Rattle.fb_bytes.proofs.Order.{same_eq}
+use Rattle.fb_outside.specs.declared.File.{File}
+use Rattle.fb_outside.specs.Files.{file_of}
+use Rattle.mutations.specs.declared.Entry.{Entry}
+use Rattle.mutations.specs.Clipping.{all_clipped}
+use Rattle.mutations.specs.Spelling.{mutations_spelling}
+use Rattle.container_view.specs.Contents.{file_grammars}
+use Rattle.container_view.specs.Changes.{no_files}
+use Rattle.container_view.specs.Files.{whole_name, name_in, renamed, inside, folder_of}
+use Rattle.container_view.specs.Names.{names_inside}
+use Rattle.workload_text.specs.declared.Side.{Side}
+use Rattle.workload_text.specs.declared.Workload.{Workload}
+use Rattle.workload_text.specs.Commands.{IsOpening}
+use Rattle.database.specs.Commits.{most_version}
+use Rattle.cluster_core.specs.declared.event.StepFault.TheVariants.{VersionsSpent}
+use Rattle.cluster_core.specs.declared.refusal.Refusal.TheVariants.{TagBusy}
+use Rattle.cluster_core.specs.Jobs.{Job, newest, started_in}
+use Rattle.cluster_core.specs.State.{State, history_on}
+use Rattle.cluster_core.specs.Moves.{Luck, Fine, FailsOld, FailsNew, Starved, moved}
+use Rattle.cluster_core.specs.Commands.{done, refuses, new_job, starts, names_listed, open_over, open_listed, open_untaken, is_busy, open_job}
+use Rattle.cluster_core.specs.Sound.{IsOrdered, AreLoggable, IsJobSound, IsStored, AreApart, Sound}
+use Rattle.cluster_core.proofs.Entries.{All-weaker}
+use Rattle.cluster_core.proofs.All.{each_more}
+use Rattle.cluster_core.proofs.Known.{Known}
+use Rattle.cluster_core.proofs.Grown.{job_grown, stored_grown, waits}
+use Rattle.cluster_core.proofs.Frames.{sound_gone}
+
+-- ---- an empty container
+
+no_names : {X : Type 0} (f : X → Bytes) (xs : List X) → map f xs ≡ [] → xs ≡ []
+no_names f [] e = refl
+no_names f (x ∷ xs) e = cc
+
+first_none : (o : Option Bytes) (bytes : Bytes) (rest : List File) → renamed o bytes ++ rest ≡ [] → (o ≡ None) × (rest ≡ [])
+first_none None bytes rest e = (refl, e)
+first_none (Some name) bytes rest e = cc
+
+-- none of its names has a file
+none_there : (k : Known) (container name bytes : Bytes) (files : List File) → inside container files ≡ [] → file_of files (whole_name container name) ≡ Some bytes → ⊥
+none_there k container name bytes [] e f = cc
+none_there k container name bytes (file ∷ files) e f = go (is_same file.name (whole_name container name)) refl f (none_there k container name bytes files)
+  where
+    go : (b : Bool) → is_same file.name (whole_name container name) ≡ b → cond b (Some file.bytes) (file_of files (whole_name container name)) ≡ Some bytes → (inside container files ≡ [] → file_of files (whole_name container name) ≡ Some bytes → ⊥) → ⊥
+    go true s f rest =
+        let n = (first_none (name_in container file.name) file.bytes (inside container files) e).0 in
+        let i = ap (name_in container) (same_eq file.name (whole_name container name) s) ∙ k.files.whole_in container name in
+        let q = sym n ∙ i in
+        cc
+    go false s f rest = rest (first_none (name_in container file.name) file.bytes (inside container files) e).1 f
+
+empty_stored : (k : Known) (block now tickets version : ℕ) (history : List Entry) (files : List File) (tag : Bytes) (side : Side) (container : Bytes) (ranges : List KeyRange) → IsOrdered version history → names_inside container files ≡ [] → IsStored block version tickets history files (new_job tag side container ranges version)
+empty_stored k block now tickets version history files tag side container ranges o e =
+    let none : inside container files ≡ [] = no_names (λ file. file.name) (inside container files) e in
+    record {
+      honest = record {
+        folder = no_files;
+        decoded = ap (folder_of file_grammars) none;
+        honest = record { rising = o.rising; past = o.past; ranges = λ file i. absurd i; logs = λ file i. absurd i; manifests = λ file i. absurd i };
+      };
+      there = tt;
+      listed = λ name bytes names f l. absurd (none_there k container name bytes files none f);
+    }
+
+-- ---- the new job
+
+nothing_logged : (version now : ℕ) (ranges : List KeyRange) (history : List Entry) → now < version → AllByRecursion (λ (x : Entry). x.version ≤ now) history → AreLoggable ranges version history
+nothing_logged version now ranges history l a = All-weaker (λ (x : Entry). x.version ≤ now) (λ (x : Entry). version ≤ x.version → length (mutations_spelling (all_clipped ranges x.muts)) < 2 ^ 32) history (λ x h b. absurd (omega arith)) a
+
+new_sound : (block now tickets version : ℕ) (history : List Entry) (tag : Bytes) (side : Side) (container : Bytes) (ranges : List KeyRange) → IsOpening tag container ranges → now < version → AllByRecursion (λ (x : Entry). x.version ≤ now) history → IsJobSound block version tickets history (new_job tag side container ranges version)
+new_sound block now tickets version history tag side container ranges i l a = record {
+  named = i.container_named;
+  ranges = i.are_ranges;
+  some = i.some;
+  pieces = tt;
+  inside = λ key e. cc;
+  noted = tt;
+  distinct = tt;
+  snapshot = let e : 0 ≤ version = omega arith in e;
+  begun = let e : version ≤ version = omega arith in e;
+  next = let e : version ≤ version + 1 = omega arith in e;
+  logged = λ e. nothing_logged version now ranges history l a;
+}
+
+-- no job has the container
+none_in : (container : Bytes) (jobs : List Job) → started_in container jobs ≡ None → (place : ℕ) (job : Job) → slice_get jobs place ≡ Some job → is_same job.container container ≡ true → ⊥
+none_in container [] e zero job at s = cc
+none_in container [] e (suc n) job at s = cc
+none_in container (x ∷ xs) e zero job at s = go (is_same x.container container) refl e
+  where
+    go : (b : Bool) → is_same x.container container ≡ b → cond b (Some x) (started_in container xs) ≡ None → ⊥
+    go true t q = cc
+    go false t q = let same : x ≡ job = cc in let u = sym (ap (λ (y : Job). is_same y.container container) same) ∙ t in cc
+none_in container (x ∷ xs) e (suc n) job at s = go (is_same x.container container) refl e (none_in container xs)
+  where
+    go : (b : Bool) → is_same x.container container ≡ b → cond b (Some x) (started_in container xs) ≡ None → (started_in container xs ≡ None → (place : ℕ) (job : Job) → slice_get xs place ≡ Some job → is_same job.container container ≡ true → ⊥) → ⊥
+    go true t q rest = cc
+    go false t q rest = rest q n job at s
+
+same_sym : (a b : Bytes) → is_same a b ≡ true → is_same b a ≡ true
+same_sym a b h = let e = same_eq a b h in subst (λ (x : Bytes). is_same x a ≡ true) e (subst (λ (x : Bytes). is_same a x ≡ true) (sym e) h)
+
+pub past_end : {X : Type 0} (xs : List X) (m : ℕ) (x : X) → slice_get xs m ≡ Some x → m < length xs
+past_end [] zero x e = cc
+past_end [] (suc m) x e = cc
+past_end (y ∷ ys) zero x e = omega arith
+past_end (y ∷ ys) (suc m) x e = let l = past_end ys m x e in omega arith
+
+apart_more : (jobs : List Job) (new : Job) → started_in new.container jobs ≡ None → AreApart jobs → AreApart (jobs ++ new ∷ [])
+apart_more jobs new none h a b first second e f =
+    each_more (λ m x. is_same x.container second.container ≡ true → m ≡ b) jobs new
+    (λ s. each_more (λ n y. is_same new.container y.container ≡ true → length jobs ≡ n) jobs new (λ t. refl) (λ n y g t. absurd (none_in new.container jobs none n y g (same_sym new.container y.container t))) b second f s)
+    (λ m x g s. each_more (λ n y. is_same x.container y.container ≡ true → m ≡ n) jobs new (λ t. absurd (none_in new.container jobs none m x g t)) (λ n y g' t. h m n x y g g' t) b second f s)
+    a first e
+
+sound_more : (k : Known) (p : Workload) (w : State) (tag : Bytes) (side : Side) (container : Bytes) (ranges : List KeyRange) (version : ℕ) → Sound p w → w.time < version → version ≤ most_version → IsOpening tag container ranges → started_in container w.jobs ≡ None → ((files : List File) → w.files ≡ Some files → names_inside container files ≡ []) → Sound p (record w { time = version; jobs = w.jobs ++ new_job tag side container ranges version ∷ [] })
+sound_more k p w tag side container ranges version h l m i none empty =
+    let le : w.time ≤ version = omega arith in
+    let later : (t : Side) → IsOrdered version (history_on t w) = λ t. let q = h.histories t in record { rising = q.rising; past = All-weaker (λ (x : Entry). x.version ≤ w.time) (λ (x : Entry). x.version ≤ version) (history_on t w) (λ x r. omega arith) q.past } in
+    record {
+      bound = m;
+      histories = later;
+      within = h.within;
+      scripts_are = h.scripts_are;
+      clients = h.clients;
+      tickets = h.tickets;
+      jobs = each_more (λ n x. IsJobSound p.settings.block version w.tickets (history_on x.side w) x) w.jobs (new_job tag side container ranges version)
+          (new_sound p.settings.block w.time w.tickets version (history_on side w) tag side container ranges i l (h.histories side).past)
+          (λ n x e. let j = h.jobs n x e in job_grown p.settings.block w.time version w.tickets w.tickets (history_on x.side w) (history_on x.side w) x le (same w.tickets) j.logged j);
+      apart = apart_more w.jobs (new_job tag side container ranges version) none h.apart;
+      stored = λ files e.
+          let s = h.stored files e in
+          record {
+            ordered = s.ordered;
+            each = each_more (λ n x. IsStored p.settings.block version w.tickets (history_on x.side w) files x) w.jobs (new_job tag side container ranges version)
+                (empty_stored k p.settings.block w.time w.tickets version (history_on side w) files tag side container ranges (later side) (empty files e))
+                (λ n x f. stored_grown k p.settings.block w.time version w.tickets w.tickets (history_on x.side w) (history_on x.side w) files x (waits p.settings.block w.time version (history_on x.side w) x le) (same w.tickets) (s.each n x f));
+          };
+    }
+  where
+    same : (n : ℕ) → n ≤ n
+    same n = omega arith
+
+-- ---- the command
+
+starts_keeps : (k : Known) (p : Workload) (w : State) (tag : Bytes) (side : Side) (container : Bytes) (ranges : List KeyRange) → Sound p w → IsOpening tag container ranges → started_in container w.jobs ≡ None → ((files : List File) → w.files ≡ Some files → names_inside container files ≡ []) → Sound p (starts p.settings w tag side container ranges).state
+starts_keeps k p w tag side container ranges h i none empty = go (nat_lt most_version (w.time + p.settings.pace)) refl
+  where
+    go : (b : Bool) → nat_lt most_version (w.time + p.settings.pace) ≡ b → Sound p (cond b (moved (Err (VersionsSpent w.time)) w) (done (record w { time = w.time + p.settings.pace; jobs = w.jobs ++ new_job tag side container ranges (w.time + p.settings.pace) ∷ [] }))).state
+    go true e = h
+    go false e =
+        let pace : 1 ≤ p.settings.pace = p.settings.pace_in_limits.0 in
+        let l : w.time < w.time + p.settings.pace = omega arith in
+        sound_gone p (record w { time = w.time + p.settings.pace; jobs = w.jobs ++ new_job tag side container ranges (w.time + p.settings.pace) ∷ [] })
+        (sound_more k p w tag side container ranges (w.time + p.settings.pace) h l (ltb-false most_version (w.time + p.settings.pace) e) i none empty)
+
+over_keeps : (k : Known) (p : Workload) (w : State) (tag : Bytes) (side : Side) (container : Bytes) (ranges : List KeyRange) (names said : List Bytes) → Sound p w → IsOpening tag container ranges → started_in container w.jobs ≡ None → names_listed container w.files said ≡ names → Sound p (open_over p.settings w tag side container ranges names).state
+over_keeps k p w tag side container ranges [] said h i none e = starts_keeps k p w tag side container ranges h i none (λ files f. subst (λ (o : Option (List File)). names_listed container o said ≡ []) f e)
+over_keeps k p w tag side container ranges (name ∷ names) said h i none e = sound_gone p w h
+
+listed_keeps : (k : Known) (p : Workload) (w : State) (tag : Bytes) (side : Side) (container : Bytes) (ranges : List KeyRange) (luck : Luck) → Sound p w → IsOpening tag container ranges → started_in container w.jobs ≡ None → Sound p (open_listed p.settings w tag side container ranges luck).state
+listed_keeps k p w tag side container ranges (Fine said) h i none = over_keeps k p w tag side container ranges (names_listed container w.files said) said h i none refl
+listed_keeps k p w tag side container ranges FailsOld h i none = h
+listed_keeps k p w tag side container ranges FailsNew h i none = h
+listed_keeps k p w tag side container ranges Starved h i none = h
+
+untaken_keeps : (k : Known) (p : Workload) (w : State) (tag : Bytes) (side : Side) (container : Bytes) (ranges : List KeyRange) (luck : Luck) (o : Option Job) → Sound p w → IsOpening tag container ranges → started_in container w.jobs ≡ o → Sound p (open_untaken p.settings w tag side container ranges luck o).state
+untaken_keeps k p w tag side container ranges luck (Some job) h i e = sound_gone p w h
+untaken_keeps k p w tag side container ranges luck None h i e = listed_keeps k p w tag side container ranges luck h i e
+
+pub open_keeps : (k : Known) (p : Workload) (w : State) (tag : Bytes) (side : Side) (container : Bytes) (ranges : List KeyRange) (luck : Luck) → Sound p w → IsOpening tag container ranges → Sound p (open_job p.settings w tag side container ranges luck).state
+open_keeps k p w tag side container ranges luck h i = go (is_busy (newest tag w.jobs))
+  where
+    go : (b : Bool) → Sound p (cond b (refuses (TagBusy tag) w) (open_untaken p.settings w tag side container ranges luck (started_in container w.jobs))).state
+    go true = sound_gone p w h
+    go false = untaken_keeps k p w tag side container ranges luck (started_in container w.jobs) h i refl

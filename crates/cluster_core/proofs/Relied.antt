@@ -1,0 +1,131 @@
+-- The laws of other crates, as the machine's proofs use them.
+use Rattle.std.specs.Prelude.{◌≡◌, ◌≢◌, ℕ, ◌<◌, ◌≤◌, Bool, true, false, not, ◌&&◌, ◌==◌, List, [], ◌∷◌, length, min, nat_le, refl}
+use Rattle.std.specs.List.{AllByRecursion, list_all}
+use Rattle.std.proofs.Common.{ap, sym, ◌∙◌, arith, subst, option_map, inl, inr}
+use Rattle.std.proofs.lemmas.Bool.{and_parts, and_from, eqb-true}
+use Rattle.fb_bytes.specs.Bytes.{Bytes}
+use Rattle.fb_bytes.specs.Options.{IsIn}
+use Rattle.file_names.proofs.Names.{spelled_name}
+use Rattle.manifests.specs.declared.Manifest.{Manifest}
+use Rattle.manifests.proofs.Manifests as manifests
+use Rattle.manifests.proofs.Printed as printed
+use Rattle.range_files.proofs.Written as ranges
+use Rattle.log_files.proofs.Written as logs
+use Rattle.mutations.proofs.Logs.{logged_law}
+use Rattle.container_view.specs.Contents.{ContentsLaw, file_grammars, range_content}
+use Rattle.container_view.specs.Files.{has_no_slash}
+use Rattle.container_view.proofs.Honest.{honest_store_law}
+use Rattle.container_view.proofs.Lookups.{file_law}
+use Rattle.container_view.proofs.Stores.{store_law}
+use Rattle.snapshot_plan.specs.declared.Noted.{Noted}
+use Rattle.snapshot_plan.specs.Noted.{manifest_of}
+use Rattle.snapshot_plan.specs.Listing.{noted_names}
+use Rattle.snapshot_plan.proofs.Walking.{piece_law}
+use Rattle.snapshot_plan.proofs.Manifests.{manifest_law, whole_law}
+use Rattle.database.proofs.Dumping as dumping
+use Rattle.database.proofs.Committing as committing
+use Rattle.backup_core.proofs.Manifests.{honest_manifest_law}
+use Rattle.workload_text.specs.Commands.{is_name_byte, begins_well, is_container_name}
+use Rattle.cluster_core.specs.Sound.{IsDrawn}
+use Rattle.cluster_core.proofs.Known.{FilesKnown, ManifestsKnown, Known}
+
+contents : ContentsLaw
+contents = record {
+  range = λ block begin end pairs w r. ap (option_map range_content) (ranges.written_is_read block begin end pairs w r);
+  log = λ begin end block batches b w. logs.written_is_read block begin end batches b w;
+  manifest = λ name bytes m t. ap (option_map (λ (x : Manifest). x.files)) (manifests.manifest_is_read name bytes m t);
+}
+
+-- ---- containers' names
+
+byte_no_slash : (byte : ℕ) → is_name_byte byte ≡ true → not (byte == 47) ≡ true
+byte_no_slash byte h = go (byte == 47) refl
+  where
+    go : (b : Bool) → (byte == 47) ≡ b → not (byte == 47) ≡ true
+    go true e = let n : byte ≡ 47 = eqb-true byte 47 e in absurd (let q = sym (ap is_name_byte n) ∙ h in cc)
+    go false e = ap not e
+
+all_no_slash : (name : Bytes) → list_all is_name_byte name ≡ true → has_no_slash name ≡ true
+all_no_slash [] h = refl
+all_no_slash (byte ∷ name) h =
+    let parts = and_parts (is_name_byte byte) (list_all is_name_byte name) h in
+    and_from (not (byte == 47)) (list_all (λ b. not (b == 47)) name) (byte_no_slash byte parts.0) (all_no_slash name parts.1)
+
+no_slash : (name : Bytes) → is_container_name name ≡ true → has_no_slash name ≡ true
+unfolding is_container_name
+no_slash name h = all_no_slash name (and_parts (begins_well name && nat_le (length name) 32) (list_all is_name_byte name) h).1
+
+files : FilesKnown
+files = record {
+  put_same = file_law.put_same;
+  put_other = file_law.put_other;
+  ordered = file_law.files_put;
+  found = λ container whole name bytes files folder snapshot version ticket block o w f n d. file_law.found file_grammars container whole name bytes files folder snapshot version ticket block o w f n d;
+  apart = λ container other name c o d. file_law.apart container other name (no_slash container c) (no_slash other o) d;
+  whole_in = store_law.whole_in;
+}
+
+-- ---- manifests
+
+some : (noted : List Noted) → 0 < length noted → noted ≢ []
+some [] l e = absurd (omega arith)
+some (n ∷ noted) l e = cc
+
+none_or_some : (P : List Noted → Type 0) (noted : List Noted) → P [] → (noted ≢ [] → P noted) → P noted
+none_or_some P [] n s = n
+none_or_some P (x ∷ xs) n s = s (λ e. cc)
+
+in_of : (P : Noted → Type 0) (noted : List Noted) (n : Noted) → AllByRecursion P noted → IsIn n noted → P n
+in_of P [] n a i = absurd i
+in_of P (x ∷ xs) n a i = elim i [ inl e ↦ subst P (sym e) a.0 | inr r ↦ in_of P xs n a.1 r ]
+
+-- the least is no greater than the greatest
+order : (noted : List Noted) → (manifest_of noted).begin ≤ (manifest_of noted).end
+order noted = none_or_some (λ xs. (manifest_of xs).begin ≤ (manifest_of xs).end) noted (omega arith) (λ s.
+    let begin = manifest_law.begin noted s in
+    let end = manifest_law.end noted s in
+    let low = begin.least end.one.0 end.one.1 in
+    let e = end.one.2 in
+    omega arith)
+
+end_most : (noted : List Noted) (most : ℕ) → AllByRecursion (λ n. n.file.version ≤ most) noted → (manifest_of noted).end ≤ most
+end_most noted most a = none_or_some (λ xs. (manifest_of xs).end ≤ most) noted (omega arith) (λ s.
+    let end = manifest_law.end noted s in
+    let h = in_of (λ n. n.file.version ≤ most) noted end.one.0 a end.one.1 in
+    let e = end.one.2 in
+    omega arith)
+
+name_in_of : (P : Bytes → Type 0) (noted : List Noted) (name : Bytes) → AllByRecursion (λ n. P n.file.name) noted → IsIn name (noted_names noted) → P name
+name_in_of P [] name a i = absurd i
+name_in_of P (x ∷ xs) name a i = elim i [ inl e ↦ subst P (sym e) a.0 | inr r ↦ name_in_of P xs name a.1 r ]
+
+all_of : (P : Bytes → Type 0) (names : List Bytes) → ((name : Bytes) → IsIn name names → P name) → AllByRecursion P names
+all_of P [] f = tt
+all_of P (x ∷ xs) f = (f x (inl refl), all_of P xs (λ name i. f name (inr i)))
+
+min_below : (a b : ℕ) → min a b ≤ a
+min_below a b = omega arith
+
+manifests_known : ManifestsKnown
+manifests_known = record {
+  honest = λ s folder noted file l r p t b e c. honest_manifest_law s folder noted (some noted l) r p t file (record { begin = b; end = e; content = c });
+  whole = λ noted l r d. (whole_law noted (some noted l) r d).whole;
+  order = order;
+  end = end_most;
+  bytes = λ noted. let b = manifest_law.bytes noted in subst (λ (n : ℕ). n ≤ 9223372036854775807) (sym b) (min_below _ _);
+  listed = λ tickets noted a. all_of (IsDrawn tickets) (manifest_of noted).files (λ name i. name_in_of (IsDrawn tickets) noted name a ((manifest_law.files noted name).0 i));
+  written = λ m ticket w b. printed.written_is_manifest m ticket w (let l : m.bytes < 18446744073709551616 = omega arith in l);
+}
+
+pub known : Known
+known = record {
+  names = spelled_name.read;
+  files = files;
+  store = honest_store_law;
+  contents = contents;
+  dump = dumping.dump_law;
+  commit = committing.commit_law;
+  piece = piece_law;
+  logged = logged_law;
+  manifests = manifests_known;
+}

@@ -1,0 +1,9 @@
+use Rattle.std.proofs.Common.{subst}
+use Rattle.cluster_core.specs.World.{IsListed}
+use Rattle.std.proofs.Common.{ap, ◌∙◌}
+use Rattle.cluster_core.specs.Commands.{gone_on}
+use Rattle.cluster_core.proofs.Carried.{open_refused}
+use Rattle.cluster_core.proofs.world.World.open_listed.Goals as goal
+
+pub returns-in-Ok-Some-clause-step : goal.returns-in-Ok-Some-clause-step
+returns-in-Ok-Some-clause-step g c = open_refused c.args.self.now.workload c.args.side c.args.tag c.args.container c.args.ranges c.args.self.now.state c.go_on.new.self.state c.in-Ok-Some.name c.requires.plan (subst (IsListed c.args.self.now.state c.args.container) c.in-Ok-Some.field-0-is c.in-Ok-Some.ensures.listed) (c.go_on.ensures.state ∙ ap gone_on c.least_name.ensures.state)

@@ -1,0 +1,28 @@
+use Rattle.std.proofs.Common.{◌≡◌, ap, sym, ◌∙◌, subst, slice_index_or}
+use Rattle.fb_bytes.specs.Bytes.{Bytes}
+use Rattle.snapshot_plan.specs.Noted.{gap}
+use Rattle.backup_core.specs.Hand.{HandJob}
+use Rattle.cluster_core.specs.World.{Seen}
+use Rattle.cluster_core.specs.Commands.{refuses}
+use Rattle.cluster_core.specs.declared.refusal.Refusal.TheVariants.{Untiled}
+use Rattle.cluster_core.proofs.Cuts.{seal_refused, seal_planned, seal_safe}
+use Rattle.cluster_core.proofs.world.World.plan_seal.Goals as goal
+
+pub returns-in-Ok-clause-plan : goal.returns-in-Ok-clause-plan
+returns-in-Ok-clause-plan g c job at =
+    seal_planned c.args.self.now.workload.settings c.args.self.now.state c.args.place c.index-job.result.now job c.in_ok-filing-in-Ok.filing
+    (subst (λ (seen : Seen). c.index-job.result.now ≡ slice_index_or seen.state.jobs c.args.place c.index-job.result.now) c.self.view_is c.index-job.ensures)
+    (ap (λ (h : HandJob). gap h.map) (sym c.hand.ensures) ∙ c.in-Ok.ensures.ok.0) c.in_ok-filing-in-Ok.ensures.file at
+
+pub returns-in-Ok-clause-safe : goal.returns-in-Ok-clause-safe
+returns-in-Ok-clause-safe g c =
+    seal_safe c.args.self.now.state c.args.place c.index-job.result.now c.requires.at.0 c.in_ok-filing-in-Ok.filing
+    (subst (λ (seen : Seen). c.index-job.result.now ≡ slice_index_or seen.state.jobs c.args.place c.index-job.result.now) c.self.view_is c.index-job.ensures)
+    c.requires.at.1 c.in_ok-filing-in-Ok.ensures.file c.in_ok-filing-in-Ok.ensures.drawn
+
+pub returns-in-Err-Untiled-clause-plan : goal.returns-in-Err-Untiled-clause-plan
+returns-in-Err-Untiled-clause-plan g c job at luck =
+    seal_refused c.args.self.now.state c.args.place c.index-job.result.now job c.hand.result.now c.in-Err-Untiled.field-0 c.in-Err-Untiled.key
+    (subst (λ (seen : Seen). c.index-job.result.now ≡ slice_index_or seen.state.jobs c.args.place c.index-job.result.now) c.self.view_is c.index-job.ensures)
+    c.hand.ensures c.in-Err-Untiled.ensures.err c.in-Err-Untiled.field-0-is at luck
+    ∙ ap (λ (key : Bytes). refuses (Untiled key) c.args.self.now.state) (sym c.in-Err-Untiled.key-is)

@@ -1,0 +1,21 @@
+use fb_bytes::TryCopy;
+use std::alloc::AllocError;
+
+/// How far a job has come. It has ended in the last three states.
+#[derive(Clone, Copy, Debug, PartialEq, Eq)]
+pub enum JobState {
+    /// Its first task wasn't done yet.
+    Submitted,
+    Running,
+    /// Its snapshot is done, and its log goes on.
+    RunningDifferential,
+    Completed,
+    Aborted,
+    Failed,
+}
+
+impl TryCopy for JobState {
+    fn copy(&self) -> Result<Self, AllocError> {
+        Ok(*self)
+    }
+}

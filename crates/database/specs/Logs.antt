@@ -1,0 +1,27 @@
+-- The logs of jobs, in the order of the jobs' numbers.
+use Rattle.std.specs.Prelude.{ℕ, ◌<◌, not, List, [], ◌∷◌, Option, Some, None, nat_eq, nat_le, nat_lt, if◌then◌else◌}
+use Rattle.std.specs.List.{AllByRecursion, filter, position_or_len}
+pub use Rattle.database.specs.declared.job_log.JobLog.{JobLog}
+
+-- the jobs' numbers rise, so no job logs twice
+abbrev pub AreInOrder : List JobLog → Type 0
+AreInOrder [] = Unit {0}
+AreInOrder (log ∷ logs) = AllByRecursion (λ later. log.job < later.job) logs × AreInOrder logs
+
+-- the log of a job, where it logs
+abbrev pub log_of : List JobLog → ℕ → Option JobLog
+log_of [] job = None
+log_of (log ∷ logs) job = if nat_eq log.job job then Some log else log_of logs job
+
+-- one log more, behind those of the jobs with lower numbers
+abbrev pub with_log : JobLog → List JobLog → List JobLog
+with_log new [] = new ∷ []
+with_log new (log ∷ logs) = if nat_lt log.job new.job then log ∷ with_log new logs else new ∷ log ∷ logs
+
+-- the logs of the other jobs
+abbrev pub without_log : ℕ → List JobLog → List JobLog
+without_log job logs = filter (λ (log : JobLog). not (nat_eq log.job job)) logs
+
+-- the place of the first log that isn't of a job with a lower number, or the end
+abbrev pub place_of : ℕ → List JobLog → ℕ
+place_of job logs = position_or_len (λ (log : JobLog). nat_le job log.job) logs

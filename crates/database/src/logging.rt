@@ -1,0 +1,59 @@
+//! What a job logs of a history.
+
+ghost use Rattle.std.specs.Prelude.{◌≡◌, ◌++◌, [], IfOk, OnOk};
+ghost use Rattle.mutations.specs.Clipping.{all_clipped};
+ghost use Rattle.mutations.specs.Histories.{logged, with_batch};
+
+use fb_bytes::Ranges;
+use mutations::{Batch, Batches, Entry, Mutation, Muts, clip};
+use std::alloc::{AllocError, Global};
+
+/// What a job with these ranges logs from the version `begin` on and before `end`.
+pub fn logged(
+    alloc: Global,
+    history: &[Entry],
+    ranges: &Ranges,
+    begin: u64,
+    end: u64,
+) -> Result<Batches, AllocError>
+    ensures { IfOk result (λ batches. batches ≡ logged history.now ranges.now begin end) }
+{
+    let mut batches = Batches::new(alloc);
+    for entry in history {
+        if begin <= entry.version && entry.version < end {
+            add_batch(alloc, &mut batches, entry, ranges)?;
+        }
+    }
+    Ok(batches)
+}
+
+/// Adds the batch of an entry, unless the ranges leave nothing of it.
+fn add_batch(
+    alloc: Global,
+    batches: &mut Batches,
+    entry: &Entry,
+    ranges: &Ranges,
+) -> Result<(), AllocError>
+    ensures { OnOk result (batches.new ≡ batches.old ++ with_batch entry.now.version (all_clipped ranges.now entry.now.muts) []) }
+{
+    let muts = clip_all(alloc, entry.muts.as_slice(), ranges)?;
+    if muts.is_empty() {
+        return Ok(());
+    }
+    batches.push(Batch {
+        version: entry.version,
+        muts,
+    })
+}
+
+/// What is left of mutations in the ranges.
+fn clip_all(alloc: Global, muts: &[Mutation], ranges: &Ranges) -> Result<Muts, AllocError>
+    ensures { IfOk result (λ left. left ≡ all_clipped ranges.now muts.now) }
+{
+    let mut left = Vec::new(alloc);
+    for mutation in muts {
+        let mut clipped = clip(alloc, mutation, ranges)?.into_vec();
+        left.append(&mut clipped)?;
+    }
+    Ok(Muts::from_vec(left))
+}

@@ -1,0 +1,101 @@
+//! What a commit of operations comes to, and the entry that it makes.
+
+ghost use Rattle.std.specs.Prelude.{◌≡◌, ◌<◌, ◌∷◌, [], ◌++◌, OnOk, OnErr};
+ghost use Rattle.std.specs.List.{AllByRecursion};
+ghost use Rattle.mutations.specs.declared.Entry.{Entry};
+ghost use Rattle.mutations.specs.Clipping.{all_clipped};
+ghost use Rattle.mutations.specs.Histories.{batches_of};
+ghost use Rattle.mutations.specs.Transactions.{writes_of};
+ghost use Rattle.versioned_kv.specs.Applied.{Holds};
+ghost use Rattle.database.specs.Commits.{version_taken, large_in, large_of, counted_bytes};
+
+use crate::{CommitFault, JobLog};
+use fb_bytes::Ranges;
+use mutations::{Entry, History, TxOp, TxOps, clipped_bytes};
+use std::alloc::AllocError;
+use std::slice::from_ref;
+use versioned_kv::{Store, Versions};
+
+/// The least number of mutation bytes that a batch can't have.
+const TOO_MANY: u128 = 4_294_967_296;
+
+/// The version that operations take, where they are none that a limit refuses.
+pub fn version_taken(
+    versions: &Versions,
+    logs: &[JobLog],
+    ops: &TxOps,
+) -> Result<Option<u64>, CommitFault>
+    ensures { result ≡ version_taken versions.entry.now.now versions.entry.now.pace logs.now (writes_of ops.now) }
+{
+    if !ops.has_writes() {
+        return Ok(None);
+    }
+    let Some(version) = versions.next() else {
+        return Err(CommitFault::VersionsSpent {
+            version: versions.now,
+        });
+    };
+    match large_in(logs, ops.as_slice()) {
+        Some(bytes) => Err(CommitFault::LogTooLarge { bytes }),
+        None => Ok(Some(version)),
+    }
+}
+
+/// The bytes that the first of the logs for which they are too many would take. Nothing is built.
+fn large_in(logs: &[JobLog], ops: &[TxOp]) -> Option<u128>
+    ensures { result ≡ large_in logs.now (writes_of ops.now) }
+{
+    for log in logs {
+        match large_of(log, ops) {
+            Some(bytes) => return Some(bytes),
+            None => continue,
+        }
+    }
+    None
+}
+
+fn large_of(log: &JobLog, ops: &[TxOp]) -> Option<u128>
+    ensures { result ≡ large_of log.now (writes_of ops.now) }
+{
+    let bytes = clipped_writes(ops, &log.ranges);
+    if bytes < TOO_MANY {
+        return None;
+    }
+    Some(bytes)
+}
+
+/// The mutation bytes of what clipping leaves of the writes. A count of more than `u128::MAX` stops
+/// there.
+fn clipped_writes(ops: &[TxOp], ranges: &Ranges) -> u128
+    ensures { result ≡ counted_bytes (all_clipped ranges.now (writes_of ops.now)) }
+{
+    let mut total: u128 = 0;
+    for op in ops {
+        let TxOp::Write(mutation) = op else {
+            continue;
+        };
+        total = total.saturating_add(clipped_bytes(from_ref(mutation), ranges));
+    }
+    total
+}
+
+/// Applies an entry to a store, and puts it at the end of the history that the store holds. Without
+/// memory the history is as it was, and the store holds it.
+pub fn put_entry(history: &mut History, store: &mut Store, entry: Entry) -> Result<(), AllocError>
+    requires past { AllByRecursion (λ (earlier : Entry). earlier.version < entry.version) history.old }
+    requires oldest { store.old.oldest < entry.version }
+    requires holds { Holds store.old (batches_of history.old) }
+    ensures ok { OnOk result (history.new ≡ history.old ++ entry ∷ []) }
+    ensures err { OnErr result (history.new ≡ history.old) }
+    ensures holds { Holds store.new (batches_of history.new) }
+    ensures same { (store.new.limit ≡ store.old.limit) × (store.new.oldest ≡ store.old.oldest) }
+{
+    store.apply(entry.version, &entry.muts)?;
+    match history.push(entry) {
+        Ok(()) => Ok(()),
+        Err(error) => {
+            store.retract();
+            Err(error)
+        }
+    }
+}
