@@ -74,6 +74,201 @@ fn smallest_whole_path(rt: HostRuntime) -> Result<(), Fail> {
     Ok(())
 }
 
+// The commit at the dump's version stands in the log too, and so it does at later versions.
+#[test]
+fn a_mutation_at_the_version_of_a_dump(rt: HostRuntime) -> Result<(), Fail> {
+    let text =
+        b"block 256\npace 10\nclient 1 src\ntxn\nadd n \\x01\ntxn\nadd n \\x01\noperator\nopen default src box\ndump default \\e \\xff\ncut default\nseal default\nschedule\nop\nbegin 1\ncommit 1\nop\nbegin 1\ncommit 1\nop\nop\n";
+    let said =
+        b"op open -> done\nbegin 1 -> read 10\ncommit 1 -> commit 20\nop dump -> placed box/kvranges/snapshot.20/0/range,20,1,256\nbegin 1 -> read 20\ncommit 1 -> commit 30\nop cut -> placed box/logs/0/log,10,31,2,256\nop seal -> placed box/snapshots/snapshot,20,20,23,3\nclient 1 txn 1 try 1 read 10 commit 20\nclient 1 txn 2 try 1 read 20 commit 30\nentry src 20 client 1 1\nadd n \\x01\nentry src 30 client 1 2\nadd n \\x01\njob 1 default hand running\nend 30\n";
+    let mut sink = MemSink::new(rt.alloc(), 1000, &[])?;
+    let exit = played(rt.alloc(), text, &[], &mut sink)?;
+    assert_eq!(rt; exit.status, 0);
+    assert_eq!(rt; sink.written().as_slice(), said.as_slice());
+    let files = exit.vault.files();
+    assert!(rt;
+        has_file(
+            files,
+            RANGE_NAME,
+            b"\xe9\x03\x00\x00\x00\x00\x00\x00\x00\x00\x00\x01n\x00\x00\x00\x01\x01\x00\x00\x00\x01\xff"
+        )
+    );
+    assert!(rt;
+        has_file(
+            files,
+            b"box/logs/0/log,10,31,2,256",
+            b"\xd1\x07\x00\x00\x00\x00\x00\x0c\x00\x00\x00\x00\x00\x00\x00\x14\x00\x00\x00\x00\x00\x00\x00\x1a\xbd\x1b\x00\x00\x00\x00\x00\x00\x0e\x00\x00\x00\x02\x00\x00\x00\x01\x00\x00\x00\x01\x00\x00\x00n\x01\x00\x00\x00\x0c\x00\x00\x00\x00\x00\x00\x00\x1e\x00\x00\x00\x00\x00\x00\x00\x1a\xbd\x1b\x00\x00\x00\x00\x00\x00\x0e\x00\x00\x00\x02\x00\x00\x00\x01\x00\x00\x00\x01\x00\x00\x00n\x01"
+        )
+    );
+    Ok(())
+}
+
+// Two pieces of differing versions, with a clear between them that touches both; a seal comes too early.
+#[test]
+fn a_clear_across_two_pieces(rt: HostRuntime) -> Result<(), Fail> {
+    let text =
+        b"block 256\npace 10\nclient 1 src\ntxn\nset c 1\ntxn\nclearrange b x\ntxn\nset p 2\noperator\nopen default src box a z\ndump default a m\nseal default\ndump default m z\ncut default\nseal default\nschedule\nop\nbegin 1\ncommit 1\nop\nbegin 1\ncommit 1\nop\nbegin 1\ncommit 1\nop\nop\nop\n";
+    let said =
+        b"op open -> done\nbegin 1 -> read 10\ncommit 1 -> commit 20\nop dump -> placed box/kvranges/snapshot.20/0/range,20,1,256\nbegin 1 -> read 20\ncommit 1 -> commit 30\nop seal -> refused untiled m\nbegin 1 -> read 30\ncommit 1 -> commit 40\nop dump -> placed box/kvranges/snapshot.20/0/range,40,2,256\nop cut -> placed box/logs/0/log,10,41,3,256\nop seal -> placed box/snapshots/snapshot,20,40,48,4\nclient 1 txn 1 try 1 read 10 commit 20\nclient 1 txn 2 try 1 read 20 commit 30\nclient 1 txn 3 try 1 read 30 commit 40\nentry src 20 client 1 1\nset c 1\nentry src 30 client 1 2\nclear b x\nentry src 40 client 1 3\nset p 2\njob 1 default hand running\nend 40\n";
+    let mut sink = MemSink::new(rt.alloc(), 1000, &[])?;
+    let exit = played(rt.alloc(), text, &[], &mut sink)?;
+    assert_eq!(rt; exit.status, 0);
+    assert_eq!(rt; sink.written().as_slice(), said.as_slice());
+    let files = exit.vault.files();
+    assert!(rt;
+        has_file(
+            files,
+            RANGE_NAME,
+            b"\xe9\x03\x00\x00\x00\x00\x00\x01a\x00\x00\x00\x01c\x00\x00\x00\x011\x00\x00\x00\x01m"
+        )
+    );
+    assert!(rt;
+        has_file(
+            files,
+            b"box/kvranges/snapshot.20/0/range,40,2,256",
+            b"\xe9\x03\x00\x00\x00\x00\x00\x01m\x00\x00\x00\x01p\x00\x00\x00\x012\x00\x00\x00\x01z"
+        )
+    );
+    assert!(rt;
+        has_file(
+            files,
+            b"box/snapshots/snapshot,20,40,48,4",
+            b"{\"beginVersion\":20,\"endVersion\":40,\"files\":[\"kvranges/snapshot.20/0/range,20,1,256\",\"kvranges/snapshot.20/0/range,40,2,256\"],\"format\":1,\"totalBytes\":48}"
+        )
+    );
+    Ok(())
+}
+
+// A job on each database; the commit is one of the second. Its dump has two blocks, and its batch in the
+// log five parts in two blocks.
+#[test]
+fn two_jobs_on_both_databases(rt: HostRuntime) -> Result<(), Fail> {
+    let value = [b'v'; 64];
+    let text = two_jobs(rt.alloc(), &value)?;
+    let said = two_jobs_report(rt.alloc(), &value)?;
+    let mut sink = MemSink::new(rt.alloc(), 2000, &[])?;
+    let exit = played(rt.alloc(), text.as_slice(), &[], &mut sink)?;
+    assert_eq!(rt; exit.status, 0);
+    assert_eq!(rt; sink.written().as_slice(), said.as_slice());
+    assert!(rt; has_two_jobs(rt.alloc(), exit.vault.files(), &value)?);
+    Ok(())
+}
+
+fn two_jobs(alloc: Global, value: &[u8; 64]) -> Result<Vec<u8>, AllocError> {
+    let sets = four_sets(alloc, value)?;
+    joined(
+        alloc,
+        &[
+            b"block 256\npace 10\nclient 1 dst\ntxn\n",
+            sets.as_slice(),
+            b"operator\nopen one src box\nopen two dst cask\ndump one \\e \\xff\ndump two \\e \\xff\ncut one\ncut two\nseal two\nschedule\nop\nop\nbegin 1\ncommit 1\nop\nop\nop\nop\nop\n",
+        ],
+    )
+}
+
+fn two_jobs_report(alloc: Global, value: &[u8; 64]) -> Result<Vec<u8>, AllocError> {
+    let sets = four_sets(alloc, value)?;
+    joined(
+        alloc,
+        &[
+            b"op open -> done\nop open -> done\nbegin 1 -> read 20\ncommit 1 -> commit 30\nop dump -> placed box/kvranges/snapshot.30/0/range,30,1,256\nop dump -> placed cask/kvranges/snapshot.30/0/range,30,2,256\nop cut -> placed box/logs/0/log,10,31,3,256\nop cut -> placed cask/logs/0/log,20,31,4,256\nop seal -> placed cask/snapshots/snapshot,30,30,416,5\nclient 1 txn 1 try 1 read 20 commit 30\nentry dst 30 client 1 1\n",
+            sets.as_slice(),
+            b"job 1 one hand running\njob 2 two hand running\nend 30\n",
+        ],
+    )
+}
+
+// The lines that set four keys to this value.
+fn four_sets(alloc: Global, value: &[u8; 64]) -> Result<Vec<u8>, AllocError> {
+    joined(
+        alloc,
+        &[
+            b"set a ",
+            value,
+            b"\nset b ",
+            value,
+            b"\nset c ",
+            value,
+            b"\nset d ",
+            value,
+            b"\n",
+        ],
+    )
+}
+
+// Whether the first job's files are those of an empty database, and the second's hold the four keys.
+fn has_two_jobs(alloc: Global, files: &Files, value: &[u8; 64]) -> Result<bool, AllocError> {
+    let dump = two_blocks(alloc, value)?;
+    let log = five_parts(alloc, value)?;
+    Ok(
+        has_file(
+            files,
+            b"box/kvranges/snapshot.30/0/range,30,1,256",
+            b"\xe9\x03\x00\x00\x00\x00\x00\x00\x00\x00\x00\x01\xff",
+        ) && has_file(files, b"box/logs/0/log,10,31,3,256", b"")
+            && has_file(
+                files,
+                b"cask/kvranges/snapshot.30/0/range,30,2,256",
+                dump.as_slice(),
+            )
+            && has_file(files, b"cask/logs/0/log,20,31,4,256", log.as_slice()),
+    )
+}
+
+// The range file of four keys with this value of 64 bytes: the second block begins with the third key again.
+fn two_blocks(alloc: Global, value: &[u8; 64]) -> Result<Vec<u8>, AllocError> {
+    let padding = [0xff; 29];
+    joined(
+        alloc,
+        &[
+            b"\xe9\x03\x00\x00\x00\x00\x00\x00\x00\x00\x00\x01a\x00\x00\x00\x40",
+            value,
+            b"\x00\x00\x00\x01b\x00\x00\x00\x40",
+            value,
+            b"\x00\x00\x00\x01c\x00\x00\x00\x40",
+            value,
+            &padding,
+            b"\xe9\x03\x00\x00\x00\x00\x00\x01c\x00\x00\x00\x01c\x00\x00\x00\x40",
+            value,
+            b"\x00\x00\x00\x01d\x00\x00\x00\x40",
+            value,
+            b"\x00\x00\x00\x01\xff",
+        ],
+    )
+}
+
+// The log file of one batch that sets four keys to this value of 64 bytes, cut into parts of 64 bytes.
+fn five_parts(alloc: Global, value: &[u8; 64]) -> Result<Vec<u8>, AllocError> {
+    joined(
+        alloc,
+        &[
+            b"\xd1\x07\x00\x00\x00\x00\x00\x0c\x00\x00\x00\x00\x00\x00\x00\x1e\x00\x00\x00\x00\x00\x00\x00\x40\xbd\x1b\x00\x00\x00\x00\x00\x00\x34\x01\x00\x00\x00\x00\x00\x00\x01\x00\x00\x00\x40\x00\x00\x00a",
+            &value[..39],
+            b"\x00\x00\x00\x0c\x00\x00\x00\x00\x00\x00\x00\x1e\x00\x00\x00\x01\x00\x00\x00\x40",
+            &value[..25],
+            b"\x00\x00\x00\x00\x01\x00\x00\x00\x40\x00\x00\x00b",
+            &value[..26],
+            b"\x00\x00\x00\x0c\x00\x00\x00\x00\x00\x00\x00\x1e\x00\x00\x00\x02\x00\x00\x00\x40",
+            &value[..38],
+            b"\x00\x00\x00\x00\x01\x00\x00\x00\x40\x00\x00\x00c",
+            &value[..13],
+            b"\xd1\x07\x00\x00\x00\x00\x00\x0c\x00\x00\x00\x00\x00\x00\x00\x1e\x00\x00\x00\x03\x00\x00\x00\x40",
+            &value[..51],
+            b"\x00\x00\x00\x00\x01\x00\x00\x00\x40\x00\x00\x00d\x00\x00\x00\x0c\x00\x00\x00\x00\x00\x00\x00\x1e\x00\x00\x00\x04\x00\x00\x00\x40",
+            value,
+        ],
+    )
+}
+
+// The pieces, one behind the other.
+fn joined(alloc: Global, pieces: &[&[u8]]) -> Result<Vec<u8>, AllocError> {
+    let mut text = Vec::new(alloc);
+    for piece in pieces {
+        text.extend_from_slice(piece)?;
+    }
+    Ok(text)
+}
+
 // The operator stays at a command whose call on the store failed. A failure is the status where it is
 // the last event's.
 #[test]
