@@ -129,7 +129,8 @@ impl<V: Vault> World<V> {
         self.workload.operator.as_slice().get(self.place)
     }
 
-    /// Makes one step. A refused one leaves the world as it was.
+    /// Makes one step. After a fault the world is as it was, but for the file that a failed put may have
+    /// left in the store.
     pub fn step(&mut self, event: &Event) -> Result<Answer, StepFault>
         ensures step { Step self.old.workload self.old.state event.now result self.new.state }
         ensures workload { self.new.workload ≡ self.old.workload }
