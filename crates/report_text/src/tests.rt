@@ -300,7 +300,11 @@ fn jobs_in_each_state(rt: HostRuntime) -> Result<(), Fail> {
 #[test]
 fn kinds_of_commands(rt: HostRuntime) -> Result<(), Fail> {
     let alloc = rt.alloc();
-    let ranges = Ranges::build(alloc, &[]);
+    let list = [KeyRange {
+        begin: Blob::new(alloc),
+        end: Blob::from_slice(alloc, b"m")?,
+    }];
+    let ranges = Ranges::build(alloc, &list);
     assert!(rt; ranges.is_ok());
     if let Ok(ranges) = ranges {
         let open = Command::Open {
