@@ -332,7 +332,7 @@ impl<V: Vault> World<V> {
             }
             Err(ViewFault::NoContainer) => Ok(None),
             Err(ViewFault::VaultFault) => Err(StepFault::VaultFault),
-            Err(ViewFault::Damaged { .. } | ViewFault::NoMemory) => Err(StepFault::NoMemory),
+            Err(_) => Err(StepFault::NoMemory),
         }
     }
 

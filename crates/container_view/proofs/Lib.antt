@@ -15,4 +15,6 @@ pub mod Lookups
 pub mod Decimal
 pub mod Names
 pub mod Stripped
+pub mod Reading
 pub mod Rows
+pub mod Sets

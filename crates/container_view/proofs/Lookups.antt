@@ -114,17 +114,17 @@ past_in name w (f ∷ fs) h r (inl e) = ap (λ (x : File). is_below name x.name)
 past_in name w (f ∷ fs) h r (inr i) = below_trans name f.name w.name h (past_in f.name w fs r.0 r.1 i)
 
 -- a file of the list is the one that its name finds
-found_in : (w : File) (fs : List File) → AreFiles fs → IsIn w fs → file_of fs w.name ≡ Some w.bytes
+pub found_in : (w : File) (fs : List File) → AreFiles fs → IsIn w fs → file_of fs w.name ≡ Some w.bytes
 found_in w [] r i = absurd i
 found_in w (f ∷ fs) r (inl e) =
     ap (λ b. cond b (Some f.bytes) (file_of fs w.name)) (ap (λ (x : File). is_same f.name x.name) e ∙ same_itself f.name) ∙ ap (λ (x : File). Some x.bytes) (sym e)
 found_in w (f ∷ fs) r (inr i) = ap (λ b. cond b (Some f.bytes) (file_of fs w.name)) (below_not_same f.name w.name (past_in f.name w fs r.0 r.1 i)) ∙ found_in w fs r.1 i
 
 -- a file of the container, by its name there, is one of the store
-abbrev IsOfStore : Bytes → File → List File → Type 0
+abbrev pub IsOfStore : Bytes → File → List File → Type 0
 IsOfStore container f files = (w : File) × IsIn w files × (name_in container w.name ≡ Some f.name) × (w.bytes ≡ f.bytes)
 
-in_inside : (container : Bytes) (f : File) (files : List File) → IsIn f (inside container files) → IsOfStore container f files
+pub in_inside : (container : Bytes) (f : File) (files : List File) → IsIn f (inside container files) → IsOfStore container f files
 in_inside container f [] i = absurd i
 in_inside container f (w ∷ ws) i = go (name_in container w.name) refl i (in_inside container f ws)
   where

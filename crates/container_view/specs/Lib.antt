@@ -15,3 +15,4 @@ pub mod Stores
 pub mod Lookups
 pub mod Honest
 pub mod Names
+pub mod Sets

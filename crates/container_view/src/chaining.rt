@@ -1,6 +1,6 @@
 //! Chains of log files, from the names of a container's files alone.
 
-ghost use Rattle.std.specs.Prelude.{◌≡◌, ℕ, ◌<◌, List, [], length, IfOk, IfSome, option_map};
+ghost use Rattle.std.specs.Prelude.{◌≡◌, ℕ, ◌+◌, ◌<◌, List, [], length, IfOk, IfSome, option_map};
 ghost use Rattle.container_view.specs.Chain as spec;
 ghost use Rattle.container_view.specs.Names.{chain_named, logs_named, seen, better_log};
 ghost use Rattle.file_names.specs.Reading.{name_of};
@@ -94,9 +94,26 @@ impl Links {
 pub fn chain(alloc: Global, names: &Names, from: u64, to: u64) -> Result<Option<Links>, AllocError>
     ensures { IfOk result (λ links. links ≡ chain_named names.now from to) }
 {
+    if to == 0 {
+        return Ok(Some(Links {
+            links: Vec::new(alloc),
+        }));
+    }
+    chain_past(alloc, names, from, to - 1)
+}
+
+/// The chain of log files from `from` until it is past `last`.
+pub fn chain_past(
+    alloc: Global,
+    names: &Names,
+    from: u64,
+    last: u64,
+) -> Result<Option<Links>, AllocError>
+    ensures { IfOk result (λ links. links ≡ chain_named names.now from (last + 1)) }
+{
     let mut links = Vec::new(alloc);
     let mut version = from;
-    'links: while version < to {
+    'links: while version <= last {
         let Some((name, end)) = best_log(names.as_slice(), version) else {
             return Ok(None);
         };

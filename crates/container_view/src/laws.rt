@@ -11,6 +11,7 @@ ghost use Rattle.container_view.specs.Lookups.{FileLaw};
 ghost use Rattle.container_view.specs.Names.{NamesLaw};
 ghost use Rattle.container_view.specs.Property.{PropertyLaw};
 ghost use Rattle.container_view.specs.Restore.{RestoreLaw, RestoredLaw};
+ghost use Rattle.container_view.specs.Sets.{SetLaw};
 ghost use Rattle.container_view.specs.Stores.{StoreLaw};
 
 /// What honest writers leave, every reader finds.
@@ -66,6 +67,11 @@ pub fn restore_law()
 /// A restore from honest files leaves the history's pairs.
 pub fn restored_law()
     ensures { RestoredLaw }
+{}
+
+/// What is read for a version is the chosen manifest with its chain.
+pub fn set_law()
+    ensures { SetLaw }
 {}
 
 /// What a step on a store's files does to the folder of a container.

@@ -122,3 +122,52 @@ fn a_property_is_a_number_alone(rt: HostRuntime) -> Result<(), Fail> {
     );
     Ok(())
 }
+
+/// A container `box` with a snapshot of version 20, of one range file, and a log.
+fn backup(alloc: Global) -> Result<Files, AllocError> {
+    let mut files = Files::new(alloc);
+    files.put(file(alloc, "box/kvranges/snapshot.20/0/range,20,1,256", b"")?)?;
+    files.put(file(alloc, "box/logs/0/log,10,31,2,256", b"")?)?;
+    files.put(file(
+        alloc,
+        "box/snapshots/snapshot,20,20,23,3",
+        b"{\"beginVersion\":20,\"endVersion\":20,\"files\":[\"kvranges/snapshot.20/0/range,20,1,256\"],\"format\":1,\"totalBytes\":23}",
+    )?)?;
+    Ok(files)
+}
+
+// The set of a version, from a store with these files.
+fn set_from(alloc: Global, files: &Files, version: u64) -> Result<RestoreSet, ViewFault> {
+    let mut vault = MemVault::new(alloc, files, &[])?;
+    let container = Text::from_str(alloc, "box")?;
+    restore_set(alloc, &mut vault, &container, version)
+}
+
+#[test]
+fn a_set_has_the_manifest_its_files_and_the_links(rt: HostRuntime) -> Result<(), Fail> {
+    let alloc = rt.alloc();
+    let files = backup(alloc)?;
+    let set = set_from(alloc, &files, 25)?;
+    assert_eq!(rt; set.manifest.begin, 20);
+    assert_eq!(rt; set.ranges.len(), 1);
+    assert_eq!(rt; set.links.len(), 1);
+    let refused = set_from(alloc, &files, 31);
+    assert!(rt;
+        matches!(
+            &refused,
+            Err(ViewFault::NotRestorable { min, max }) if *min == Some(20) && *max == Some(30)
+        )
+    );
+    Ok(())
+}
+
+#[test]
+fn a_manifest_needs_its_range_files(rt: HostRuntime) -> Result<(), Fail> {
+    let alloc = rt.alloc();
+    let range = "kvranges/snapshot.20/0/range,20,1,256";
+    let mut files = backup(alloc)?;
+    files.delete(b"box/kvranges/snapshot.20/0/range,20,1,256");
+    let missing = set_from(alloc, &files, 20);
+    assert!(rt; matches!(&missing, Err(ViewFault::Missing { name }) if name.as_str() == range));
+    Ok(())
+}

@@ -12,15 +12,26 @@ ghost use Rattle.fb_outside.specs.Faults.{Counts};
 ghost use Rattle.fb_outside.specs.declared.File.{File};
 
 use crate::read_property;
-use fb_bytes::{Names, Text, is_same};
+use fb_bytes::{Blob, Names, Text, is_same};
 use fb_outside::{Vault, VaultFail};
+use log_files::LogFault;
+use manifests::ManifestFault;
+use range_files::BlockFault;
 use std::alloc::{AllocError, AllocFailed, Global};
 
 /// What is wrong with a file of a container.
-#[derive(Clone, Copy, Debug, PartialEq, Eq)]
+#[derive(Debug, Drop)]
 pub enum FileFault {
     /// A property file doesn't hold one number.
     Property,
+    /// The first fault of a manifest.
+    Manifest { fault: ManifestFault },
+    /// The first fault of a range file.
+    Range { fault: BlockFault },
+    /// The first fault of a log file.
+    Log { fault: LogFault },
+    /// A range file's range begins at this key, inside the range of another one.
+    Overlap { key: Blob },
 }
 
 /// Why a container can't be read.
@@ -28,8 +39,13 @@ pub enum FileFault {
 pub enum ViewFault {
     /// The folder has no file.
     NoContainer,
-    /// The bytes of this file aren't in their grammar.
+    /// The version isn't advertised. These are the least and the greatest version that are, where
+    /// there are any.
+    NotRestorable { min: Option<u64>, max: Option<u64> },
+    /// The bytes of this file aren't in their grammar, or its range overlaps another one's.
     Damaged { name: Text, fault: FileFault },
+    /// A file that is needed isn't there.
+    Missing { name: Text },
     /// The store failed.
     VaultFault,
     /// There was no memory.
@@ -118,7 +134,7 @@ pub fn get_property<V: Vault>(
 }
 
 /// Whether the names list a file.
-fn is_named(names: &Names, name: &str) -> bool
+pub(crate) fn is_named(names: &Names, name: &str) -> bool
     ensures { result ≡ is_named names.now name.now }
 {
     'names: for listed in names.as_slice() {
