@@ -1,0 +1,6 @@
+mod Apart
+mod Placing
+mod Tables
+mod Lines
+mod Joins
+mod Replays

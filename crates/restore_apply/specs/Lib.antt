@@ -1,0 +1,4 @@
+pub mod Loaded
+pub mod Overlaps
+pub mod Laws
+pub mod Edits
