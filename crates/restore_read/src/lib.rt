@@ -1,0 +1,13 @@
+//! Reads what a container says for a version, and gives its pairs.
+#![tactic(auto)]
+
+mod laws;
+mod links;
+mod ranges;
+mod restoring;
+
+pub use laws::restore_law;
+pub use restoring::restore;
+
+#[cfg(test)]
+mod tests;
