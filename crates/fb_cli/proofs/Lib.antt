@@ -3,3 +3,5 @@ pub mod Kept
 pub mod Histories
 pub mod Texts
 pub mod Replaying
+pub mod Restoring
+pub mod Appends

@@ -8,7 +8,7 @@ use Rattle.workload_text.specs.declared.Workload.{Workload}
 use Rattle.workload_text.specs.Grammar.{Built, what, built}
 use Rattle.report_text.specs.declared.Report.{Report}
 use Rattle.fb_cli.specs.declared.fault.Fault.{Fault}
-use Rattle.fb_cli.specs.declared.fault.Fault.TheVariants.{SourceFault, SinkFault, VaultFault, VersionsSpent, NoMemory, NotBuilt}
+use Rattle.fb_cli.specs.declared.fault.Fault.TheVariants.{SourceFault, SinkFault, VaultFault, NotRestorable, Damaged, VersionsSpent, NoMemory, NoContainer, Missing, NotBuilt}
 use Rattle.cluster_core.specs.State.{State, opening}
 use Rattle.fb_cli.specs.Runs.{IsRunReport, fault_in}
 use Rattle.fb_cli.specs.Replays.{IsPlayed, AnswersText, IsOfReplay, IsUnplayed, Replays, Leaves, SaysText, ReadsText}
@@ -36,6 +36,10 @@ played_kind (Some SinkFault) k = elim k [ inl e ↦ e | inr e ↦ cc ]
 played_kind (Some VaultFault) k = tt
 played_kind (Some (VersionsSpent version)) k = tt
 played_kind (Some NoMemory) k = tt
+played_kind (Some (NotRestorable low high)) k = elim k [ inl e ↦ e | inr e ↦ cc ]
+played_kind (Some (Damaged name fault)) k = elim k [ inl e ↦ e | inr e ↦ cc ]
+played_kind (Some NoContainer) k = elim k [ inl e ↦ e | inr e ↦ cc ]
+played_kind (Some (Missing name)) k = elim k [ inl e ↦ e | inr e ↦ cc ]
 played_kind (Some (NotBuilt line)) k = tt
 
 not_source : (fault : Option Fault) → IsPlayed fault ⊎ (fault ≡ Some NoMemory) → fault ≡ Some SourceFault → ⊥
@@ -61,6 +65,10 @@ played_not_idle (Some SinkFault) k u = u
 played_not_idle (Some VaultFault) k u = u
 played_not_idle (Some (VersionsSpent version)) k u = u
 played_not_idle (Some NoMemory) k u = u
+played_not_idle (Some (NotRestorable low high)) k u = u
+played_not_idle (Some (Damaged name fault)) k u = u
+played_not_idle (Some NoContainer) k u = u
+played_not_idle (Some (Missing name)) k u = u
 played_not_idle (Some (NotBuilt line)) k u = elim k [ inl e ↦ e | inr e ↦ cc ]
 
 -- what a run leaves, from its opening state on

@@ -5,8 +5,10 @@ use Rattle.cluster_core.specs.declared.Answer.{Answer}
 use Rattle.cluster_core.specs.declared.StepFault.{StepFault}
 use Rattle.cluster_core.specs.declared.StepFault.TheVariants as steps
 use Rattle.report_text.specs.declared.EventLine.{EventLine}
+use Rattle.report_text.specs.Faults.{file_fault_words}
+use Rattle.report_text.specs.Lines.{behind}
 use Rattle.fb_cli.specs.declared.fault.Fault.{Fault}
-use Rattle.fb_cli.specs.declared.fault.Fault.TheVariants.{SourceFault, SinkFault, VaultFault, VersionsSpent, NoMemory, NotBuilt}
+use Rattle.fb_cli.specs.declared.fault.Fault.TheVariants.{SourceFault, SinkFault, VaultFault, NotRestorable, Damaged, VersionsSpent, NoMemory, NoContainer, Missing, NotBuilt}
 
 -- the status that a command ends with
 abbrev pub status_of : Option Fault → ℕ
@@ -14,9 +16,18 @@ status_of None = 0
 status_of (Some SourceFault) = 3
 status_of (Some SinkFault) = 4
 status_of (Some VaultFault) = 5
+status_of (Some (NotRestorable low high)) = 6
+status_of (Some (Damaged name fault)) = 7
 status_of (Some (VersionsSpent version)) = 10
 status_of (Some NoMemory) = 12
+status_of (Some NoContainer) = 13
+status_of (Some (Missing name)) = 14
 status_of (Some (NotBuilt line)) = 15
+
+-- a number that may be absent
+abbrev pub number_or_none : Option ℕ → Bytes
+number_or_none None = codes "none"
+number_or_none (Some n) = decimal n
 
 -- the line of a refusal; two have none
 abbrev pub refusal_line : Option Fault → Bytes
@@ -25,7 +36,11 @@ refusal_line (Some SourceFault) = codes "refused source-fault\n"
 refusal_line (Some SinkFault) = []
 refusal_line (Some VaultFault) = codes "refused vault-fault\n"
 refusal_line (Some (VersionsSpent version)) = codes "refused versions-spent " ++ decimal version ++ codes "\n"
+refusal_line (Some (NotRestorable low high)) = codes "refused not-restorable " ++ (number_or_none low ++ (codes " " ++ (number_or_none high ++ codes "\n")))
+refusal_line (Some (Damaged name fault)) = codes "refused damaged " ++ (name ++ behind (file_fault_words fault))
 refusal_line (Some NoMemory) = []
+refusal_line (Some NoContainer) = codes "refused no-container\n"
+refusal_line (Some (Missing name)) = codes "refused missing " ++ (name ++ codes "\n")
 refusal_line (Some (NotBuilt line)) = codes "refused not-built " ++ decimal line ++ codes "\n"
 
 -- the refusal of a command whose last step was answered so

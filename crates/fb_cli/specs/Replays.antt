@@ -7,7 +7,7 @@ use Rattle.workload_text.specs.declared.Workload.{Workload}
 use Rattle.workload_text.specs.Grammar.{Built, what, built, most_bytes}
 use Rattle.report_text.specs.declared.Report.{Report}
 use Rattle.fb_cli.specs.declared.fault.Fault.{Fault}
-use Rattle.fb_cli.specs.declared.fault.Fault.TheVariants.{SourceFault, SinkFault, VaultFault, VersionsSpent, NoMemory, NotBuilt}
+use Rattle.fb_cli.specs.declared.fault.Fault.TheVariants.{SourceFault, SinkFault, VaultFault, NotRestorable, Damaged, VersionsSpent, NoMemory, NoContainer, Missing, NotBuilt}
 use Rattle.fb_cli.specs.Runs.{IsRunReport, fault_in}
 
 -- The schedule was played to its end: there is no refusal but one of its last step.
@@ -18,6 +18,10 @@ IsPlayed (Some SinkFault) = ⊥
 IsPlayed (Some VaultFault) = Unit {0}
 IsPlayed (Some (VersionsSpent version)) = Unit {0}
 IsPlayed (Some NoMemory) = ⊥
+IsPlayed (Some (NotRestorable low high)) = ⊥
+IsPlayed (Some (Damaged name fault)) = ⊥
+IsPlayed (Some NoContainer) = ⊥
+IsPlayed (Some (Missing name)) = ⊥
 IsPlayed (Some (NotBuilt line)) = ⊥
 
 -- What a text is answered: one that is built is played, another one names its first line that isn't; want of memory may stand in place of either.
@@ -33,6 +37,10 @@ ReadsAll (Some SinkFault) = ⊥
 ReadsAll (Some VaultFault) = Unit {0}
 ReadsAll (Some (VersionsSpent version)) = Unit {0}
 ReadsAll (Some NoMemory) = ⊥
+ReadsAll (Some (NotRestorable low high)) = ⊥
+ReadsAll (Some (Damaged name fault)) = ⊥
+ReadsAll (Some NoContainer) = ⊥
+ReadsAll (Some (Missing name)) = ⊥
 ReadsAll (Some (NotBuilt line)) = Unit {0}
 
 -- no fault of a sink, since nothing is written yet
@@ -43,6 +51,10 @@ IsOfReplay (Some SinkFault) = ⊥
 IsOfReplay (Some VaultFault) = Unit {0}
 IsOfReplay (Some (VersionsSpent version)) = Unit {0}
 IsOfReplay (Some NoMemory) = Unit {0}
+IsOfReplay (Some (NotRestorable low high)) = ⊥
+IsOfReplay (Some (Damaged name fault)) = ⊥
+IsOfReplay (Some NoContainer) = ⊥
+IsOfReplay (Some (Missing name)) = ⊥
 IsOfReplay (Some (NotBuilt line)) = Unit {0}
 
 -- no step was made
@@ -53,6 +65,10 @@ IsUnplayed (Some SinkFault) = ⊥
 IsUnplayed (Some VaultFault) = ⊥
 IsUnplayed (Some (VersionsSpent version)) = ⊥
 IsUnplayed (Some NoMemory) = ⊥
+IsUnplayed (Some (NotRestorable low high)) = ⊥
+IsUnplayed (Some (Damaged name fault)) = ⊥
+IsUnplayed (Some NoContainer) = ⊥
+IsUnplayed (Some (Missing name)) = ⊥
 IsUnplayed (Some (NotBuilt line)) = Unit {0}
 
 -- A replay of what a source has left. `left` and `left'` are what the source tells before and after, `faults` and `faults'` its counts, `files` and `files'` what the file store tells.
@@ -97,6 +113,10 @@ IsOfReading (Some SinkFault) = ⊥
 IsOfReading (Some VaultFault) = ⊥
 IsOfReading (Some (VersionsSpent version)) = ⊥
 IsOfReading (Some NoMemory) = Unit {0}
+IsOfReading (Some (NotRestorable low high)) = ⊥
+IsOfReading (Some (Damaged name fault)) = ⊥
+IsOfReading (Some NoContainer) = ⊥
+IsOfReading (Some (Missing name)) = ⊥
 IsOfReading (Some (NotBuilt line)) = Unit {0}
 
 -- What reading the text of a workload comes to.

@@ -102,7 +102,9 @@ pub record IsRun (workload : Workload) (files files' : Option (List File)) (repo
 -- a report of a run of the workload
 abbrev pub IsRunReport : Workload → Option (List File) → Option (List File) → Report → Type 0
 IsRunReport workload files files' (reports.Run report) = IsRun workload files files' report
+IsRunReport workload files files' (reports.Restored report) = ⊥
 
 -- the refusal by the answer of a report's last event
 abbrev pub fault_in : Report → Option Fault
 fault_in (reports.Run report) = last_fault report.lines
+fault_in (reports.Restored report) = None

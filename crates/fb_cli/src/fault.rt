@@ -1,40 +1,56 @@
-ghost use Rattle.std.specs.Prelude.{◌≡◌, Option, Some, None, ◌++◌, codes, decimal, IfOk};
-ghost use Rattle.fb_cli.specs.Faults.{status_of, refusal_line, fault_of, last_fault};
+ghost use Rattle.std.specs.Prelude.{◌≡◌, Some, ◌++◌, decimal, IfOk};
+ghost use Rattle.fb_cli.specs.Faults.{status_of, number_or_none, refusal_line, fault_of, last_fault};
+ghost use Rattle.fb_cli.specs.Restores.{refusal_of};
 
 use cluster_core::{Answer, StepFault};
+use container_view::{FileFault, ViewFault};
+use fb_bytes::{Blob, Text};
 use itoa::Buffer;
-use report_text::EventLine;
+use report_text::{EventLine, put_file_fault};
 use std::alloc::{AllocError, Global};
 
 /// Why a command was refused.
-#[derive(Clone, Copy, Debug, PartialEq, Eq)]
+#[derive(Debug, Drop)]
 pub enum Fault {
     /// The source failed.
     SourceFault,
     /// The sink failed.
     SinkFault,
-    /// The file store failed in the last step.
+    /// The file store failed: in a replay, in its last step.
     VaultFault,
+    /// The container doesn't advertise the version. These are the least and the greatest version that
+    /// it does, where there are any.
+    NotRestorable { min: Option<u64>, max: Option<u64> },
+    /// The bytes of this file aren't in their grammar, or its range overlaps another one's.
+    Damaged { name: Text, fault: FileFault },
     /// The last step would take a version past the greatest one; the version is the newest.
     VersionsSpent { version: u64 },
     /// There was no memory.
     NoMemory,
+    /// The container has no file.
+    NoContainer,
+    /// A file that is needed isn't there.
+    Missing { name: Text },
     /// The words or the text aren't built: the first line that isn't, from 1, the number after the
     /// last line where the text ends too early, and 0 for the words and for a text that is too long.
     NotBuilt { line: u64 },
 }
 
 /// The status that a command ends with.
-pub fn status_of(fault: Option<Fault>) -> u8
-    ensures { result ≡ status_of fault }
+pub fn status_of(fault: &Option<Fault>) -> u8
+    ensures { result ≡ status_of fault.now }
 {
     match fault {
         None => 0,
         Some(Fault::SourceFault) => 3,
         Some(Fault::SinkFault) => 4,
         Some(Fault::VaultFault) => 5,
+        Some(Fault::NotRestorable { .. }) => 6,
+        Some(Fault::Damaged { .. }) => 7,
         Some(Fault::VersionsSpent { .. }) => 10,
         Some(Fault::NoMemory) => 12,
+        Some(Fault::NoContainer) => 13,
+        Some(Fault::Missing { .. }) => 14,
         Some(Fault::NotBuilt { .. }) => 15,
     }
 }
@@ -63,47 +79,88 @@ fn fault_of(answer: &Result<Answer, StepFault>) -> Option<Fault>
     }
 }
 
-/// Adds the line of a refusal, where it has one.
-pub fn push_refusal(
-    alloc: Global,
-    out: &mut Vec<u8>,
-    fault: Option<Fault>,
-) -> Result<(), AllocError>
-    ensures { IfOk result (λ _. out.new.items ≡ out.old.items ++ refusal_line fault) }
-{
-    let line = refusal_line(alloc, fault)?;
-    out.extend_from_slice(line.as_slice())?;
-    Ok(())
-}
-
-fn refusal_line(alloc: Global, fault: Option<Fault>) -> Result<Vec<u8>, AllocError>
-    ensures { IfOk result (λ line. line.items ≡ refusal_line fault) }
+/// The refusal by what is wrong with a container.
+pub fn refusal_of(fault: ViewFault) -> Fault
+    ensures { result ≡ refusal_of fault }
 {
     match fault {
-        Some(Fault::SourceFault) => Vec::from_slice(alloc, b"refused source-fault\n"),
-        Some(Fault::VaultFault) => Vec::from_slice(alloc, b"refused vault-fault\n"),
-        Some(Fault::VersionsSpent { version }) => versions_spent_line(alloc, version),
-        Some(Fault::NotBuilt { line }) => not_built_line(alloc, line),
-        None | Some(Fault::SinkFault) | Some(Fault::NoMemory) => Ok(Vec::new(alloc)),
+        ViewFault::NoContainer => Fault::NoContainer,
+        ViewFault::NotRestorable { min, max } => Fault::NotRestorable { min, max },
+        ViewFault::Damaged { name, fault } => Fault::Damaged { name, fault },
+        ViewFault::Missing { name } => Fault::Missing { name },
+        ViewFault::VaultFault => Fault::VaultFault,
+        ViewFault::NoMemory => Fault::NoMemory,
     }
 }
 
-fn versions_spent_line(alloc: Global, version: u64) -> Result<Vec<u8>, AllocError>
-    ensures { IfOk result (λ text. text.items ≡ codes "refused versions-spent " ++ decimal version ++ codes "\n") }
+/// Adds the line of a refusal, where it has one.
+pub fn push_refusal(alloc: Global, out: &mut Blob, fault: &Option<Fault>) -> Result<(), AllocError>
+    ensures { IfOk result (λ _. out.new ≡ out.old ++ refusal_line fault.now) }
 {
-    let mut buffer = Buffer::new();
-    let mut text = Vec::from_slice(alloc, b"refused versions-spent ")?;
-    text.extend_from_slice(buffer.format(version).as_bytes())?;
-    text.extend_from_slice(b"\n")?;
-    Ok(text)
+    match fault {
+        Some(Fault::SourceFault) => out.extend_from_slice(b"refused source-fault\n"),
+        Some(Fault::VaultFault) => out.extend_from_slice(b"refused vault-fault\n"),
+        Some(Fault::NotRestorable { min, max }) => push_not_restorable(out, *min, *max),
+        Some(Fault::Damaged { name, fault }) => push_damaged(alloc, out, name, fault),
+        Some(Fault::VersionsSpent { version }) => {
+            push_number(out, b"refused versions-spent ", *version, b"\n")
+        }
+        Some(Fault::NoContainer) => out.extend_from_slice(b"refused no-container\n"),
+        Some(Fault::Missing { name }) => push_missing(out, name),
+        Some(Fault::NotBuilt { line }) => push_number(out, b"refused not-built ", *line, b"\n"),
+        None | Some(Fault::SinkFault) | Some(Fault::NoMemory) => Ok(()),
+    }
 }
 
-fn not_built_line(alloc: Global, line: u64) -> Result<Vec<u8>, AllocError>
-    ensures { IfOk result (λ text. text.items ≡ codes "refused not-built " ++ decimal line ++ codes "\n") }
+// A text, a number, and a text behind it.
+fn push_number(out: &mut Blob, front: &[u8], number: u64, back: &[u8]) -> Result<(), AllocError>
+    ensures { IfOk result (λ _. out.new ≡ out.old ++ (front.now ++ (decimal number ++ back.now))) }
 {
     let mut buffer = Buffer::new();
-    let mut text = Vec::from_slice(alloc, b"refused not-built ")?;
-    text.extend_from_slice(buffer.format(line).as_bytes())?;
-    text.extend_from_slice(b"\n")?;
-    Ok(text)
+    out.extend_from_slice(front)?;
+    out.extend_from_slice(buffer.format(number).as_bytes())?;
+    out.extend_from_slice(back)
+}
+
+// A number that may be absent.
+fn push_or_none(out: &mut Blob, number: Option<u64>) -> Result<(), AllocError>
+    ensures { IfOk result (λ _. out.new ≡ out.old ++ number_or_none number) }
+{
+    match number {
+        Some(number) => push_number(out, b"", number, b""),
+        None => out.extend_from_slice(b"none"),
+    }
+}
+
+fn push_not_restorable(out: &mut Blob, min: Option<u64>, max: Option<u64>) -> Result<(), AllocError>
+    ensures { IfOk result (λ _. out.new ≡ out.old ++ refusal_line (Some (Fault.NotRestorable min max))) }
+{
+    out.extend_from_slice(b"refused not-restorable ")?;
+    push_or_none(out, min)?;
+    out.extend_from_slice(b" ")?;
+    push_or_none(out, max)?;
+    out.extend_from_slice(b"\n")?;
+    Ok(())
+}
+
+fn push_damaged(
+    alloc: Global,
+    out: &mut Blob,
+    name: &Text,
+    fault: &FileFault,
+) -> Result<(), AllocError>
+    ensures { IfOk result (λ _. out.new ≡ out.old ++ refusal_line (Some (Fault.Damaged name.now fault.now))) }
+{
+    out.extend_from_slice(b"refused damaged ")?;
+    out.extend_from_slice(name.as_bytes())?;
+    put_file_fault(alloc, out, fault)?;
+    Ok(())
+}
+
+fn push_missing(out: &mut Blob, name: &Text) -> Result<(), AllocError>
+    ensures { IfOk result (λ _. out.new ≡ out.old ++ refusal_line (Some (Fault.Missing name.now))) }
+{
+    out.extend_from_slice(b"refused missing ")?;
+    out.extend_from_slice(name.as_bytes())?;
+    out.extend_from_slice(b"\n")
 }

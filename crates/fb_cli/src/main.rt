@@ -1,8 +1,10 @@
-//! The program: reads the words, plays a workload over a file store, and prints the report.
+//! The program: reads the words, plays a workload over a file store or restores a container of it,
+//! and prints the report.
 #![tactic(auto)]
 
 mod fault;
 mod replay;
+mod restore;
 mod top;
 
 use fb_bytes::Text;

@@ -64,7 +64,7 @@ pub fn refused<V: Vault>(fault: Fault, vault: V) -> Ended<V>
 {
     let fault = Some(fault);
     Ended {
-        status: crate::fault::status_of(fault),
+        status: crate::fault::status_of(&fault),
         report: None,
         fault,
         vault,
@@ -91,7 +91,7 @@ fn play<V: Vault>(alloc: Global, workload: &Workload, vault: V) -> Ended<V>
         Ok(lines) => {
             let fault = last_fault(lines.as_slice());
             Ended {
-                status: crate::fault::status_of(fault),
+                status: crate::fault::status_of(&fault),
                 report: Some(Report::Run(RunReport {
                     lines,
                     outcomes: parts.outcomes,

@@ -1,3 +1,5 @@
+mod restores;
+
 use crate::top::{Exit, top};
 use fb_bytes::{Blob, Text, is_same};
 use fb_outside::{Failed, File, Files, MemSink, MemSource, MemVault, Sink};

@@ -1,14 +1,17 @@
-ghost use Rattle.std.specs.Prelude.{◌≡◌, Option, IfOk};
+ghost use Rattle.std.specs.Prelude.{◌≡◌, [], ◌∷◌, Option, option_map, IfOk};
 ghost use Rattle.fb_cli.specs.declared.fault.Fault.{Fault};
 ghost use Rattle.fb_cli.specs.Replays.{Leaves};
-ghost use Rattle.fb_cli.specs.Shows.{is_replay, Commands, Shows, shown, report_part};
+ghost use Rattle.fb_cli.specs.Shows.{is_replay, restore_asked, Commands, Shows, shown, report_part};
 
 use crate::fault::{Fault, push_refusal, status_of};
 use crate::replay::{Ended, refused, replay};
-use fb_bytes::Text;
+use crate::restore::restore_words;
+use container_view::read_property;
+use fb_bytes::{Blob, Text};
 use fb_outside::{Sink, Source, Vault, write_all};
 use report_text::{Report, report_bytes};
 use std::alloc::{AllocError, Global};
+use workload_text::is_container_name;
 
 /// How the program ends: its status, what it had to tell, and the file store.
 #[derive(Drop)]
@@ -32,7 +35,7 @@ pub fn top<S: Source, V: Vault, K: Sink>(
         × Shows (K.held sink.old) (K.held sink.new) (K.faults sink.old) (K.faults sink.new) result.report fault result.status }
 {
     let ended = command(alloc, words, source, vault);
-    let status = show(alloc, sink, &ended.report, ended.fault);
+    let status = show(alloc, sink, &ended.report, &ended.fault);
     let Ended {
         status: _,
         report,
@@ -52,9 +55,11 @@ fn command<S: Source, V: Vault>(alloc: Global, words: &[Text], source: &mut S, v
     ensures store { Leaves (V.files vault) (V.files result.vault) (V.faults vault) (V.faults result.vault) result.fault }
 {
     if is_replay(words) {
-        replay(alloc, source, vault)
-    } else {
-        refused(Fault::NotBuilt { line: 0 }, vault)
+        return replay(alloc, source, vault);
+    }
+    match restore_asked(words) {
+        Some((container, version)) => restore_words(alloc, vault, container, version),
+        None => refused(Fault::NotBuilt { line: 0 }, vault),
     }
 }
 
@@ -67,40 +72,53 @@ fn is_replay(words: &[Text]) -> bool
     }
 }
 
+// The container and the version that the words of a restore name.
+fn restore_asked(words: &[Text]) -> Option<(&Text, u64)>
+    ensures { option_map (λ asked. (asked.0.now, asked.1)) result ≡ restore_asked words.now }
+{
+    match words {
+        [word, container, version] => restore_of(word, container, version),
+        _ => None,
+    }
+}
+
+fn restore_of<'a>(word: &Text, container: &'a Text, version: &Text) -> Option<(&'a Text, u64)>
+    ensures { option_map (λ asked. (asked.0.now, asked.1)) result ≡ restore_asked (word.now ∷ container.now ∷ version.now ∷ []) }
+{
+    if !fb_bytes::is_same(word.as_bytes(), b"restore") || !is_container_name(container.as_bytes()) {
+        return None;
+    }
+    let version = read_property(version.as_bytes())?;
+    Some((container, version))
+}
+
 // Writes what a command tells, and answers the status.
-fn show<K: Sink>(alloc: Global, sink: &mut K, report: &Option<Report>, fault: Option<Fault>) -> u8
-    ensures { Shows (K.held sink.old) (K.held sink.new) (K.faults sink.old) (K.faults sink.new) report.now fault result }
+fn show<K: Sink>(alloc: Global, sink: &mut K, report: &Option<Report>, fault: &Option<Fault>) -> u8
+    ensures { Shows (K.held sink.old) (K.held sink.new) (K.faults sink.old) (K.faults sink.new) report.now fault.now result }
 {
     match shown(alloc, report, fault) {
         Ok(text) => match write_all(sink, text.as_slice()) {
             Ok(()) => status_of(fault),
-            Err(_) => status_of(Some(Fault::SinkFault)),
+            Err(_) => status_of(&Some(Fault::SinkFault)),
         },
-        Err(AllocError) => status_of(Some(Fault::NoMemory)),
+        Err(AllocError) => status_of(&Some(Fault::NoMemory)),
     }
 }
 
 // The report, and then the line of a refusal.
-fn shown(
-    alloc: Global,
-    report: &Option<Report>,
-    fault: Option<Fault>,
-) -> Result<Vec<u8>, AllocError>
-    ensures { IfOk result (λ text. text.items ≡ shown report.now fault) }
+fn shown(alloc: Global, report: &Option<Report>, fault: &Option<Fault>) -> Result<Blob, AllocError>
+    ensures { IfOk result (λ text. text ≡ shown report.now fault.now) }
 {
     let mut text = report_text(alloc, report)?;
     push_refusal(alloc, &mut text, fault)?;
     Ok(text)
 }
 
-fn report_text(alloc: Global, report: &Option<Report>) -> Result<Vec<u8>, AllocError>
-    ensures { IfOk result (λ text. text.items ≡ report_part report.now) }
+fn report_text(alloc: Global, report: &Option<Report>) -> Result<Blob, AllocError>
+    ensures { IfOk result (λ text. text ≡ report_part report.now) }
 {
     match report {
-        Some(report) => {
-            let text = report_bytes(alloc, report, false)?;
-            Ok(text.into_vec())
-        }
-        None => Ok(Vec::new(alloc)),
+        Some(report) => report_bytes(alloc, report, false),
+        None => Ok(Blob::new(alloc)),
     }
 }

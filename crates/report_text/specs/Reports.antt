@@ -5,13 +5,14 @@ use Rattle.fb_bytes.specs.Bytes.{Bytes}
 use Rattle.mutations.specs.declared.Entry.{Entry}
 use Rattle.client_core.specs.declared.Outcome.{Outcome}
 use Rattle.report_text.specs.declared.report.Report.{Report}
-use Rattle.report_text.specs.declared.report.Report.TheVariants.{Run}
+use Rattle.report_text.specs.declared.report.Report.TheVariants.{Run, Restored}
 use Rattle.report_text.specs.declared.report.RunReport.{RunReport}
 use Rattle.report_text.specs.Lines.{line}
 use Rattle.report_text.specs.Events.{event_line}
 use Rattle.report_text.specs.Outcomes.{client_lines}
 use Rattle.report_text.specs.Entries.{entry_lines}
 use Rattle.report_text.specs.Jobs.{job_lines}
+use Rattle.report_text.specs.Restores.{restored_text}
 
 -- what a brief report leaves out: the clients' tries and the entries of both databases
 abbrev pub details : List (List Outcome) → List Entry → List Entry → Bytes
@@ -27,3 +28,4 @@ run_text brief run = flat_map event_line run.lines ++ (if brief then [] else det
 
 abbrev pub report_text : Bool → Report → Bytes
 report_text brief (Run run) = run_text brief run
+report_text brief (Restored told) = restored_text told

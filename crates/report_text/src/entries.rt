@@ -81,7 +81,8 @@ fn put_mutation(alloc: Global, out: &mut Blob, mutation: &Mutation) -> Result<()
     }
 }
 
-fn put_pair(
+/// A line of a word and two texts of bytes.
+pub fn put_pair(
     alloc: Global,
     out: &mut Blob,
     word: &[u8],

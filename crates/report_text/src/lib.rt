@@ -5,14 +5,17 @@ mod answers;
 mod command_kind;
 mod entries;
 mod events;
+mod faults;
 mod jobs;
 mod outcomes;
 mod printing;
 mod report;
+mod restored;
 #[cfg(test)]
 mod tests;
 mod words;
 
 pub use command_kind::CommandKind;
+pub use faults::put_file_fault;
 pub use printing::report_bytes;
-pub use report::{EventLine, Report, RunReport};
+pub use report::{EventLine, Report, Restored, RunReport};

@@ -5,6 +5,7 @@ use crate::entries::put_entries;
 use crate::events::put_events;
 use crate::jobs::put_jobs;
 use crate::outcomes::put_outcomes;
+use crate::restored::put_restored;
 use crate::words::put_last;
 use crate::{Report, RunReport};
 use client_core::Outcomes;
@@ -19,6 +20,7 @@ pub fn report_bytes(alloc: Global, report: &Report, brief: bool) -> Result<Blob,
     let mut out = Blob::new(alloc);
     match report {
         Report::Run(run) => put_run(alloc, &mut out, run, brief)?,
+        Report::Restored(told) => put_restored(alloc, &mut out, told)?,
     }
     Ok(out)
 }

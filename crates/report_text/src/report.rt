@@ -1,7 +1,7 @@
 use crate::CommandKind;
 use client_core::Outcomes;
 use cluster_core::{Answer, Jobs, StepFault};
-use fb_bytes::Seq;
+use fb_bytes::{Pairs, Seq};
 use mutations::History;
 use workload_text::ScheduleLine;
 
@@ -29,8 +29,16 @@ pub struct RunReport {
     pub end: u64,
 }
 
+/// The pairs that a container has at a version.
+#[derive(Debug, Drop)]
+pub struct Restored {
+    pub version: u64,
+    pub pairs: Pairs,
+}
+
 /// What a command has to tell.
 #[derive(Debug, Drop)]
 pub enum Report {
     Run(RunReport),
+    Restored(Restored),
 }

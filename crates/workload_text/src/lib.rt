@@ -22,4 +22,5 @@ pub use reading::read_workload;
 pub use schedule::ScheduleLine;
 pub use settings::Settings;
 pub use text_fault::TextFault;
+pub use words::is_container_name;
 pub use workload::Workload;

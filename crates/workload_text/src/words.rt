@@ -80,13 +80,21 @@ pub fn block_of(word: &[u8]) -> Option<u32>
     None
 }
 
-/// The tag or the container that a word names.
+/// Whether a word has the form of a tag and of a container's name: 1 to 32 digits, letters, `_` and
+/// `-`, of which the first isn't `-`.
 #[tactic(auto, unfolding(crate::specs::Commands::is_container_name))]
+pub fn is_container_name(word: &[u8]) -> bool
+    ensures { result ≡ commands.is_container_name word.now }
+{
+    begins_well(word) && word.len() <= MOST_NAME_BYTES && are_name_bytes(word)
+}
+
+/// The tag or the container that a word names.
 pub fn name_of(alloc: Global, word: &[u8]) -> Result<Option<Text>, AllocError>
     ensures said { IfOk result (λ name. name ≡ spec.name_of word.now) }
     ensures named { IfOk result (λ name. IfSome name (λ n. commands.is_container_name n ≡ true)) }
 {
-    if !begins_well(word) || word.len() > MOST_NAME_BYTES || !are_name_bytes(word) {
+    if !is_container_name(word) {
         return Ok(None);
     }
     let name = text_of(alloc, word)?;

@@ -1,0 +1,31 @@
+ghost use Rattle.std.specs.Prelude.{◌≡◌};
+ghost use Rattle.fb_cli.specs.Faults.{status_of};
+ghost use Rattle.fb_cli.specs.Replays.{Leaves};
+ghost use Rattle.fb_cli.specs.Restores.{Restores};
+
+use crate::fault::refusal_of;
+use crate::replay::{Ended, refused};
+use fb_bytes::Text;
+use fb_outside::Vault;
+use report_text::{Report, Restored};
+use restore_read::{restore, restore_law};
+use std::alloc::Global;
+
+/// Restores a version of a container, and tells its pairs.
+pub fn restore_words<V: Vault>(alloc: Global, vault: V, container: &Text, version: u64) -> Ended<V>
+    ensures restores { Restores container.now version (V.files vault) (V.files result.vault) result.report result.fault }
+    ensures status { result.status ≡ status_of result.fault }
+    ensures store { Leaves (V.files vault) (V.files result.vault) (V.faults vault) (V.faults result.vault) result.fault }
+{
+    restore_law();
+    let mut vault = vault;
+    match restore(alloc, &mut vault, container, version) {
+        Ok(pairs) => Ended {
+            status: 0,
+            report: Some(Report::Restored(Restored { version, pairs })),
+            fault: None,
+            vault,
+        },
+        Err(fault) => refused(refusal_of(fault), vault),
+    }
+}
