@@ -13,6 +13,7 @@ mod Frames
 mod Orders
 mod Opens
 mod Steps
+pub mod Elsewhere
 mod Openings
 mod Relied
 mod Worlds

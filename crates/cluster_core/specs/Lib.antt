@@ -5,5 +5,6 @@ pub mod Commands
 pub mod Step
 pub mod Plans
 pub mod Sound
+pub mod Elsewhere
 pub mod Laws
 pub mod World

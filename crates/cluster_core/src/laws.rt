@@ -1,3 +1,4 @@
+ghost use Rattle.cluster_core.specs.Elsewhere.{ElsewhereLaw};
 ghost use Rattle.cluster_core.specs.Laws.{OpeningLaw, StepLaw, RunLaw, FaithfulLaw};
 
 /// The opening state of each workload is sound.
@@ -18,4 +19,9 @@ pub fn run_law()
 /// In a sound state each job's container is faithful.
 pub fn faithful_law()
     ensures { FaithfulLaw }
+{}
+
+/// No step changes a file outside the containers of the jobs.
+pub fn elsewhere_law()
+    ensures { ElsewhereLaw }
 {}

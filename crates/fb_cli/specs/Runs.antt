@@ -3,7 +3,6 @@ use Rattle.std.specs.Prelude.{◌≡◌, ◌≢◌, ℕ, suc, List, [], ◌∷�
 use Rattle.std.specs.List.{AllByRecursion}
 use Rattle.fb_bytes.specs.Bytes.{Bytes}
 use Rattle.fb_outside.specs.declared.File.{File}
-use Rattle.fb_outside.specs.Files.{file_of}
 use Rattle.container_view.specs.Contents.{file_grammars}
 use Rattle.container_view.specs.Files.{name_in}
 use Rattle.container_view.specs.Honest.{IsFaithfulStore}
@@ -18,6 +17,7 @@ use Rattle.client_core.specs.Legal.{entries_by, IsLegal}
 use Rattle.cluster_core.specs.declared.Event.{Event}
 use Rattle.cluster_core.specs.declared.Event.TheVariants as events
 use Rattle.cluster_core.specs.declared.StepFault.TheVariants.{NoMemory}
+use Rattle.cluster_core.specs.Elsewhere.{told_of}
 use Rattle.cluster_core.specs.Jobs.{JobTold, job_told}
 use Rattle.cluster_core.specs.State.{State, on_side, opening}
 use Rattle.cluster_core.specs.Step.{Step}
@@ -83,10 +83,6 @@ source_told block report job = record { history = on_side job.side report.src re
 -- Each version that a job's container advertises restores, from the bytes of the store's files, to what the reported history has at that version in the job's ranges.
 abbrev pub AreFaithful : ℕ → Option (List File) → RunReport → Type 0
 AreFaithful block files' report = (files : List File) → files' ≡ Some files → (place : ℕ) (job : JobTold) → slice_get report.jobs place ≡ Some job → IsFaithfulStore file_grammars (source_told block report job) job.container files
-
--- what a store tells of the file of a name, where it tells its files
-abbrev pub told_of : Option (List File) → Bytes → Option (Option Bytes)
-told_of files name = option_map (λ (told : List File). file_of told name) files
 
 -- The files outside the containers of the report's jobs are as they were.
 abbrev pub AreKeptElsewhere : Option (List File) → Option (List File) → RunReport → Type 0
