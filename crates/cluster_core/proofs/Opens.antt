@@ -11,10 +11,12 @@ use Rattle.fb_outside.specs.Files.{file_of}
 use Rattle.mutations.specs.declared.Entry.{Entry}
 use Rattle.mutations.specs.Clipping.{all_clipped}
 use Rattle.mutations.specs.Spelling.{mutations_spelling}
+use Rattle.file_names.specs.Spelling.{expired_text}
 use Rattle.container_view.specs.Contents.{file_grammars}
 use Rattle.container_view.specs.Changes.{no_files}
 use Rattle.container_view.specs.Files.{whole_name, name_in, renamed, inside, folder_of}
 use Rattle.container_view.specs.Names.{names_inside}
+use Rattle.container_view.specs.Property.{property_in}
 use Rattle.workload_text.specs.declared.Side.{Side}
 use Rattle.workload_text.specs.declared.Workload.{Workload}
 use Rattle.workload_text.specs.Commands.{IsOpening}
@@ -63,6 +65,7 @@ empty_stored k block now tickets version history files tag side container ranges
         folder = no_files;
         decoded = ap (folder_of file_grammars) none;
         honest = record { rising = o.rising; past = o.past; ranges = λ file i. absurd i; logs = λ file i. absurd i; manifests = λ file i. absurd i };
+        expired = (None, ap (λ (fs : List File). property_in (file_of fs expired_text)) none);
       };
       there = tt;
       listed = λ name bytes names f l. absurd (none_there k container name bytes files none f);

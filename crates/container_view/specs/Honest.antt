@@ -8,24 +8,31 @@ use Rattle.fb_outside.specs.Files.{AreFiles, file_of, with_file, without_file, n
 use Rattle.fb_outside.specs.declared.File.{File}
 use Rattle.file_names.specs.declared.Name.{Name}
 use Rattle.file_names.specs.declared.Name.TheVariants.{Range, Log, Manifest, Unreliable, Expired, Other}
+use Rattle.file_names.specs.Spelling.{expired_text}
 use Rattle.file_names.specs.Reading.{name_of}
 use Rattle.container_view.specs.Folder.{Folder}
 use Rattle.container_view.specs.Law.{Source, IsHonestRange, IsHonestLog, IsHonestManifest, IsHonest, IsFaithful}
 use Rattle.container_view.specs.Changes.{Grows, IsListedNowhere}
-use Rattle.container_view.specs.Property.{property_of}
-use Rattle.container_view.specs.Files.{Grammars, whole_name, name_in, range_file, log_file, manifest_file, folder_in}
+use Rattle.container_view.specs.Property.{property_of, property_in}
+use Rattle.container_view.specs.Files.{Grammars, whole_name, name_in, inside, range_file, log_file, manifest_file, folder_in}
 
--- the container's files in the store spell an honest folder
+-- the expired end is a number, where its file is there
+abbrev pub HasExpired : Bytes → List File → Type 0
+HasExpired container files = (number : Option ℕ) × (property_in (file_of (inside container files) expired_text) ≡ Some number)
+
+-- the container's files in the store spell an honest folder, and its other property is in its grammar
 pub record IsHonestStore (g : Grammars) (s : Source) (container : Bytes) (files : List File) : Type 0 where
   pub folder : Folder
   pub decoded : folder_in g container files ≡ Some folder
   pub honest : IsHonest s folder
+  pub expired : HasExpired container files
 
--- the container's files in the store spell a faithful folder
+-- the container's files in the store spell a faithful folder, and its other property is in its grammar
 pub record IsFaithfulStore (g : Grammars) (s : Source) (container : Bytes) (files : List File) : Type 0 where
   pub folder : Folder
   pub decoded : folder_in g container files ≡ Some folder
   pub faithful : IsFaithful s folder
+  pub expired : HasExpired container files
 
 -- what a new file owes, by what its name says; the folder is the one that it comes into
 abbrev pub IsHonestFile : Grammars → Source → Folder → Bytes → Bytes → Name → Type 0
@@ -33,7 +40,7 @@ IsHonestFile g s folder name bytes (Range snapshot version ticket block) = IsHon
 IsHonestFile g s folder name bytes (Log begin end ticket block) = IsHonestLog s (log_file g name bytes begin end block)
 IsHonestFile g s folder name bytes (Manifest begin end size ticket) = folder.unreliable ≤ begin → IsHonestManifest s folder.ranges (manifest_file g name bytes (Manifest begin end size ticket) begin end)
 IsHonestFile g s folder name bytes Unreliable = (end : ℕ) × (property_of bytes ≡ Some end) × (folder.unreliable ≤ end)
-IsHonestFile g s folder name bytes Expired = Unit {0}
+IsHonestFile g s folder name bytes Expired = (end : ℕ) × (property_of bytes ≡ Some end)
 IsHonestFile g s folder name bytes Other = Unit {0}
 
 -- a file may be deleted, by its name and what the name says

@@ -37,9 +37,9 @@ module _ (container : Bytes) (version : ℕ) (files files' : Option (List File))
         record { folder = m.folder; decoded = m.decoded; meaning = m.meaning; defined = m.defined; pairs = (refl, rising, λ key. sym (l.same key) ∙ m.same key) };
     cause = λ told e. let l = read told e in no_cause l.set (loaded_of (inside container told) version) l.is;
     kind = tt;
-    faithful = λ told e s h advertised number property.
+    faithful = λ told e s h advertised.
         let l = read told e in
-        let f = law.faithful s container told version number (ordered told e) h advertised property in
+        let f = law.faithful s container told version (ordered told e) h advertised in
         inl (refl, rising, λ key. sym (l.same key) ∙ ap (λ (x : Loaded). loaded_at x version key) (one_set l.set f.set _ l.is f.is) ∙ f.same key);
     same = same;
   }
@@ -72,8 +72,8 @@ module _ (container : Bytes) (version : ℕ) (files files' : Option (List File))
     meaning = λ told e. tt;
     cause = λ told e. its_cause fault (loaded_of (inside container told) version) (fails told e);
     kind = its_kind fault;
-    faithful = λ told e s h advertised number property.
-        let f = law.faithful s container told version number (ordered told e) h advertised property in
+    faithful = λ told e s h advertised.
+        let f = law.faithful s container told version (ordered told e) h advertised in
         inr (not_refused fault f.set (loaded_of (inside container told) version) (fails told e) f.is);
     same = same;
   }

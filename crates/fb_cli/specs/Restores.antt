@@ -3,8 +3,6 @@ use Rattle.std.specs.Prelude.{◌≡◌, ℕ, true, List, Option, Some, None, Re
 use Rattle.fb_bytes.specs.Bytes.{Bytes}
 use Rattle.fb_bytes.specs.Pairs.{AreRising, value_of}
 use Rattle.fb_outside.specs.declared.File.{File}
-use Rattle.fb_outside.specs.Files.{file_of}
-use Rattle.file_names.specs.Spelling.{expired_text}
 use Rattle.container_view.specs.Advertised.{is_advertised}
 use Rattle.container_view.specs.Contents.{file_grammars}
 use Rattle.container_view.specs.Files.{inside, folder_in}
@@ -12,7 +10,6 @@ use Rattle.container_view.specs.Folder.{Folder}
 use Rattle.container_view.specs.Honest.{IsFaithfulStore}
 use Rattle.container_view.specs.Law.{Source, true_value}
 use Rattle.container_view.specs.Meaning.{means}
-use Rattle.container_view.specs.Property.{property_in}
 use Rattle.container_view.specs.declared.ViewFault.{ViewFault}
 use Rattle.container_view.specs.declared.ViewFault.TheVariants as views
 use Rattle.restore_apply.specs.declared.Loaded.{Loaded}
@@ -76,7 +73,7 @@ pub record Restores (container : Bytes) (version : ℕ) (files files' : Option (
   -- each refusal has its cause
   pub cause : (told : List File) → files ≡ Some told → HasCause (loaded_of (inside container told) version) fault
   pub kind : IsOfRestore fault
-  -- an advertised version of a faithful container, whose other property is in its grammar, has its source's pairs
-  pub faithful : (told : List File) → files ≡ Some told → (s : Source) (h : IsFaithfulStore file_grammars s container told) → is_advertised h.folder version ≡ true → (number : Option ℕ) → property_in (file_of (inside container told) expired_text) ≡ Some number → Reports version (true_value s version) report ⊎ ((fault ≡ Some VaultFault) ⊎ (fault ≡ Some NoMemory))
+  -- an advertised version of a faithful container has its source's pairs
+  pub faithful : (told : List File) → files ≡ Some told → (s : Source) (h : IsFaithfulStore file_grammars s container told) → is_advertised h.folder version ≡ true → Reports version (true_value s version) report ⊎ ((fault ≡ Some VaultFault) ⊎ (fault ≡ Some NoMemory))
   -- no file is changed
   pub same : files' ≡ files

@@ -404,10 +404,11 @@ module _ (law : OverlapLaw) where
         same = λ key. value_like g.0 n.0.parts g.3 version key ∙ ap (λ (ps : List Piece). value_at ps n.0.parts version key) g.2 ∙ ap (λ (f : Bytes → Option Bytes). f key) n.2;
       }
 
-  faithful : (s : Source) (container : Bytes) (files : List File) (version : ℕ) (number : Option ℕ) → AreFiles files → (h : IsFaithfulStore file_grammars s container files) → is_advertised h.folder version ≡ true → property_in (file_of (inside container files) expired_text) ≡ Some number → Loads container files version (true_value s version)
-  faithful s container files version number r h a x =
+  faithful : (s : Source) (container : Bytes) (files : List File) (version : ℕ) → AreFiles files → (h : IsFaithfulStore file_grammars s container files) → is_advertised h.folder version ≡ true → Loads container files version (true_value s version)
+  faithful s container files version r h a =
       let f = h.faithful.each version a in
-      let l = loads container files h.folder version f.meaning number r h.decoded f.defined x in
+      let x = h.expired in
+      let l = loads container files h.folder version f.meaning x.0 r h.decoded f.defined x.1 in
       record { set = l.set; is = l.is; same = λ key. l.same key ∙ f.same key }
 
   pub restore_law_from : RestoreLaw

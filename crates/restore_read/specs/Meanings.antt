@@ -36,4 +36,4 @@ pub record RestoreLaw : Type 0 where
   -- where the container has a meaning at a version, and its other property is in its grammar, it is loaded
   pub loads : (container : Bytes) (files : List File) (folder : Folder) (version : ℕ) (meaning : Bytes → Option Bytes) (number : Option ℕ) → AreFiles files → folder_in file_grammars container files ≡ Some folder → means folder version ≡ Some meaning → property_in (file_of (inside container files) expired_text) ≡ Some number → Loads container files version meaning
   -- each version that a faithful container advertises is loaded, and says what its source had
-  pub faithful : (s : Source) (container : Bytes) (files : List File) (version : ℕ) (number : Option ℕ) → AreFiles files → (h : IsFaithfulStore file_grammars s container files) → is_advertised h.folder version ≡ true → property_in (file_of (inside container files) expired_text) ≡ Some number → Loads container files version (true_value s version)
+  pub faithful : (s : Source) (container : Bytes) (files : List File) (version : ℕ) → AreFiles files → (h : IsFaithfulStore file_grammars s container files) → is_advertised h.folder version ≡ true → Loads container files version (true_value s version)
