@@ -120,7 +120,7 @@ impl<V: Vault> World<V> {
         }
         let tag = tag.copy()?;
         let container = container.copy()?;
-        let ranges = ranges.copy(self.alloc)?;
+        let ranges = ranges.copy()?;
         Ok(Plan::Open {
             tag,
             side,

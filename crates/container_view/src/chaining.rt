@@ -77,10 +77,10 @@ impl Links {
     }
 
     /// An equal list with memory of its own.
-    pub fn copy(&self, alloc: Global) -> Result<Self, AllocError>
+    pub fn copy(&self) -> Result<Self, AllocError>
         ensures { IfOk result (λ links. links ≡ self.now) }
     {
-        let mut links = Vec::new(alloc);
+        let mut links = Vec::new(*self.links.allocator());
         for link in &self.links {
             let link = link.copy()?;
             links.push(link)?;

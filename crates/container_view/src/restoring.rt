@@ -170,7 +170,7 @@ fn set_with(
         Some(links) => links,
         None => Links::from_vec(Vec::new(alloc)),
     };
-    let ranges = manifest.files.copy(alloc)?;
+    let ranges = manifest.files.copy()?;
     Ok(RestoreSet {
         manifest,
         ranges,

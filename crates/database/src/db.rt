@@ -186,7 +186,7 @@ impl Db {
                 version: versions.now,
             });
         };
-        let ranges = ranges.copy(self.alloc)?;
+        let ranges = ranges.copy()?;
         let begin = version;
         insert_log(&mut self.logs, JobLog { job, ranges, begin })?;
         versions.now = version;

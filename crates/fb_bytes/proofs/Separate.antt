@@ -18,7 +18,7 @@ before_all key x [] h s = rw h refl
 before_all key x (y ∷ xs) h s = rw h (before_all key y xs (past_next key x (y ∷ xs) h s) s.2)
 
 -- a key of the first range or before it is in no later range
-before_rest : (key : Bytes) (x : KeyRange) (xs : List KeyRange) → is_below x.end key ≡ false → AreSeparate (x ∷ xs) → in_ranges xs key ≡ false
+pub before_rest : (key : Bytes) (x : KeyRange) (xs : List KeyRange) → is_below x.end key ≡ false → AreSeparate (x ∷ xs) → in_ranges xs key ≡ false
 before_rest key x [] h s = refl
 before_rest key x (y ∷ xs) h s = before_all key y xs (below_down key x.end y.begin h s.1) s.2
 

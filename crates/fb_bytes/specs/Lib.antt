@@ -1,5 +1,6 @@
 pub mod Bytes
 pub mod Options
+pub mod Results
 pub mod Keys
 pub mod Pairs
 pub mod Blocks

@@ -22,6 +22,14 @@ impl KeyRange {
         !is_below(key, self.begin.as_slice()) && is_below(key, self.end.as_slice())
     }
 
+    /// Whether some key is in both ranges, where each has one.
+    pub fn overlaps(&self, other: &KeyRange) -> bool
+        ensures { result ≡ keys.overlaps self.now other.now }
+    {
+        is_below(self.begin.as_slice(), other.end.as_slice())
+            && is_below(other.begin.as_slice(), self.end.as_slice())
+    }
+
     /// Whether the begin isn't below the end, so that the range has no key.
     pub fn is_backwards(&self) -> bool
         ensures { result ≡ keys.is_backwards self.now }

@@ -69,10 +69,10 @@ impl Names {
     }
 
     /// An equal list with memory of its own.
-    pub fn copy(&self, alloc: Global) -> Result<Self, AllocError>
+    pub fn copy(&self) -> Result<Self, AllocError>
         ensures { IfOk result (λ names. names ≡ self.now) }
     {
-        let mut names = Vec::new(alloc);
+        let mut names = Vec::new(*self.names.allocator());
         for name in &self.names {
             let name = name.copy()?;
             names.push(name)?;

@@ -100,10 +100,10 @@ impl Pairs {
     }
 
     /// An equal list with memory of its own.
-    pub fn copy(&self, alloc: Global) -> Result<Self, AllocError>
+    pub fn copy(&self) -> Result<Self, AllocError>
         ensures { IfOk result (λ pairs. pairs ≡ self.now) }
     {
-        let mut pairs = Vec::new(alloc);
+        let mut pairs = Vec::new(*self.pairs.allocator());
         for pair in &self.pairs {
             let pair = pair.copy()?;
             pairs.push(pair)?;

@@ -1,12 +1,13 @@
+ghost use Rattle.std.specs.List.{prefix_len};
 ghost use Rattle.std.specs.Prelude.{◌≡◌, ◌↔◌, List, [], length, position, IsTrue, None, IfOk, IsOkUnless, MatchOption};
 ghost use Rattle.fb_bytes.specs.Bytes.{Bytes};
-ghost use Rattle.fb_bytes.specs.Keys.{KeysTellRanges, AreRanges, in_ranges, is_backwards, is_past_user};
+ghost use Rattle.fb_bytes.specs.Keys.{KeysTellRanges, AreRanges, AreSeparate, in_ranges, is_passed, is_backwards, is_past_user};
 ghost use Rattle.fb_bytes.specs.Joining as spec;
 ghost use Rattle.fb_bytes.specs.Options.{first_place};
 ghost use Rattle.fb_bytes.specs.RangeFaults.{range_fault};
 
 use crate::joining::add_range;
-use crate::{KeyRange, RangeFault};
+use crate::{KeyRange, RangeFault, is_below};
 use std::alloc::{AllocError, Global};
 use std::marker::Model;
 
@@ -88,25 +89,34 @@ impl Ranges {
     pub fn contains(&self, key: &[u8]) -> bool
         ensures { result ≡ in_ranges self.now key.now }
     {
-        for range in &self.ranges {
-            if range.contains(key) {
-                return true;
-            }
+        let ranges = self.ranges.as_slice();
+        let place = ranges_before(ranges, key);
+        if place < ranges.len() {
+            ranges[place].contains(key)
+        } else {
+            false
         }
-        false
     }
 
     /// An equal list with memory of its own.
-    pub fn copy(&self, alloc: Global) -> Result<Self, AllocError>
+    pub fn copy(&self) -> Result<Self, AllocError>
         ensures { IfOk result (λ ranges. ranges ≡ self.now) }
     {
-        let mut ranges = Vec::new(alloc);
+        let mut ranges = Vec::new(*self.ranges.allocator());
         for range in &self.ranges {
             let range = range.copy()?;
             ranges.push(range)?;
         }
         Ok(Ranges { ranges })
     }
+}
+
+// How many ranges at the front the key is past.
+fn ranges_before(ranges: &[KeyRange], key: &[u8]) -> usize
+    requires { AreSeparate ranges.now }
+    ensures { result ≡ prefix_len (is_passed key.now) ranges.now }
+{
+    ranges.partition_point(|range| !is_below(key, range.end.as_slice()))
 }
 
 fn first_fault(list: &[KeyRange]) -> Option<RangeFault>

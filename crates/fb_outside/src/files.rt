@@ -129,11 +129,11 @@ impl Files {
     }
 
     /// An equal list with memory of its own.
-    pub fn copy(&self, alloc: Global) -> Result<Self, AllocError>
+    pub fn copy(&self) -> Result<Self, AllocError>
         ensures same { IfOk result (λ files. files ≡ self.now) }
         ensures files { IfOk result (λ files. AreFiles files) }
     {
-        let mut files = Vec::new(alloc);
+        let mut files = Vec::new(*self.files.allocator());
         for file in &self.files {
             let file = file.copy()?;
             files.push(file)?;

@@ -37,7 +37,7 @@ impl MemVault {
         ensures files { IfOk result (λ vault. vault.files ≡ files.now) }
         ensures calls { IfOk result (λ vault. vault.calls ≡ fresh failing.now most_faults) }
     {
-        let files = files.copy(alloc)?;
+        let files = files.copy()?;
         let calls = Calls::new(alloc, failing)?;
         Ok(MemVault::over(files, calls))
     }
@@ -47,7 +47,7 @@ impl MemVault {
         ensures files { IfOk result (λ vault. vault.files ≡ files.now) }
         ensures calls { IfOk result (λ vault. vault.calls ≡ fresh [] last) }
     {
-        let files = files.copy(alloc)?;
+        let files = files.copy()?;
         let calls = Calls::failing_after(alloc, last);
         Ok(MemVault::over(files, calls))
     }

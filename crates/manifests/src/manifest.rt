@@ -18,10 +18,10 @@ pub struct Manifest {
 
 impl Manifest {
     /// An equal manifest with memory of its own.
-    pub fn copy(&self, alloc: Global) -> Result<Self, AllocError>
+    pub fn copy(&self) -> Result<Self, AllocError>
         ensures { IfOk result (λ manifest. manifest ≡ self.now) }
     {
-        let files = self.files.copy(alloc)?;
+        let files = self.files.copy()?;
         Ok(Manifest {
             begin: self.begin,
             end: self.end,

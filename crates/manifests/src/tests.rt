@@ -33,7 +33,7 @@ fn files_in_byte_order(rt: HostRuntime) -> Result<(), Fail> {
         r#"{"beginVersion":20,"endVersion":100,"files":["kvranges/snapshot.100/0/range,100,1,256","kvranges/snapshot.100/0/range,20,2,256"],"format":1,"totalBytes":46}"#;
     let name = parse(b"snapshots/snapshot,20,100,46,3");
     let manifest = read(alloc, text.as_bytes(), &name)?;
-    let copy = manifest.copy(alloc)?;
+    let copy = manifest.copy()?;
     assert_eq!(rt; (copy.begin, copy.end, copy.files.len()), (20, 100, 2));
     Ok(())
 }

@@ -13,10 +13,10 @@ pub struct Batch {
 
 impl Batch {
     /// An equal batch with memory of its own.
-    pub fn copy(&self, alloc: Global) -> Result<Self, AllocError>
+    pub fn copy(&self) -> Result<Self, AllocError>
         ensures { IfOk result (λ batch. batch ≡ self.now) }
     {
-        let muts = self.muts.copy(alloc)?;
+        let muts = self.muts.copy()?;
         Ok(Batch {
             version: self.version,
             muts,
@@ -92,12 +92,12 @@ impl Batches {
     }
 
     /// An equal list with memory of its own.
-    pub fn copy(&self, alloc: Global) -> Result<Self, AllocError>
+    pub fn copy(&self) -> Result<Self, AllocError>
         ensures { IfOk result (λ batches. batches ≡ self.now) }
     {
-        let mut batches = Vec::new(alloc);
+        let mut batches = Vec::new(*self.batches.allocator());
         for batch in &self.batches {
-            let batch = batch.copy(alloc)?;
+            let batch = batch.copy()?;
             batches.push(batch)?;
         }
         Ok(Batches { batches })
@@ -114,10 +114,10 @@ pub struct LogChunk {
 
 impl LogChunk {
     /// An equal chunk with memory of its own.
-    pub fn copy(&self, alloc: Global) -> Result<Self, AllocError>
+    pub fn copy(&self) -> Result<Self, AllocError>
         ensures { IfOk result (λ chunk. chunk ≡ self.now) }
     {
-        let batches = self.batches.copy(alloc)?;
+        let batches = self.batches.copy()?;
         Ok(LogChunk {
             begin: self.begin,
             end: self.end,

@@ -29,10 +29,10 @@ pub struct Entry {
 
 impl Entry {
     /// An equal entry with memory of its own.
-    pub fn copy(&self, alloc: Global) -> Result<Self, AllocError>
+    pub fn copy(&self) -> Result<Self, AllocError>
         ensures { IfOk result (λ entry. entry ≡ self.now) }
     {
-        let muts = self.muts.copy(alloc)?;
+        let muts = self.muts.copy()?;
         Ok(Entry {
             version: self.version,
             who: self.who,
@@ -117,12 +117,12 @@ impl History {
     }
 
     /// An equal list with memory of its own.
-    pub fn copy(&self, alloc: Global) -> Result<Self, AllocError>
+    pub fn copy(&self) -> Result<Self, AllocError>
         ensures { IfOk result (λ entries. entries ≡ self.now) }
     {
-        let mut entries = Vec::new(alloc);
+        let mut entries = Vec::new(*self.entries.allocator());
         for entry in &self.entries {
-            let entry = entry.copy(alloc)?;
+            let entry = entry.copy()?;
             entries.push(entry)?;
         }
         Ok(History { entries })

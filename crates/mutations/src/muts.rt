@@ -72,10 +72,10 @@ impl Muts {
     }
 
     /// An equal list with memory of its own.
-    pub fn copy(&self, alloc: Global) -> Result<Self, AllocError>
+    pub fn copy(&self) -> Result<Self, AllocError>
         ensures { IfOk result (λ mutations. mutations ≡ self.now) }
     {
-        let mut mutations = Vec::new(alloc);
+        let mut mutations = Vec::new(*self.mutations.allocator());
         for mutation in &self.mutations {
             let mutation = mutation.copy()?;
             mutations.push(mutation)?;

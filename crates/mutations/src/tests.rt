@@ -182,7 +182,7 @@ fn copies(rt: HostRuntime) -> Result<(), Fail> {
         who,
         muts,
     })?;
-    let mut copy = history.copy(alloc)?;
+    let mut copy = history.copy()?;
     let entry = copy.pop().ok_or("one entry")?;
     assert_eq!(rt; entry.version, 20);
     assert_eq!(rt; entry.who, who);
@@ -197,14 +197,14 @@ fn copies(rt: HostRuntime) -> Result<(), Fail> {
         end: 21,
         batches,
     }
-    .copy(alloc)?;
+    .copy()?;
     assert_eq!(rt; (chunk.begin, chunk.end, chunk.batches.len()), (10, 21, 1));
     let mut ops = TxOps::new(alloc);
     ops.push(TxOp::Write(set(alloc, b"a", b"1")?))?;
     ops.push(TxOp::Get {
         key: Blob::from_slice(alloc, b"a")?,
     })?;
-    assert_eq!(rt; ops.copy(alloc)?.len(), 2);
+    assert_eq!(rt; ops.copy()?.len(), 2);
     Ok(())
 }
 

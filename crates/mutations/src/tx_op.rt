@@ -104,10 +104,10 @@ impl TxOps {
     }
 
     /// An equal list with memory of its own.
-    pub fn copy(&self, alloc: Global) -> Result<Self, AllocError>
+    pub fn copy(&self) -> Result<Self, AllocError>
         ensures { IfOk result (λ ops. ops ≡ self.now) }
     {
-        let mut ops = Vec::new(alloc);
+        let mut ops = Vec::new(*self.ops.allocator());
         for op in &self.ops {
             let op = op.copy()?;
             ops.push(op)?;

@@ -263,7 +263,7 @@ fn greatest_lengths_of_each_profile(rt: HostRuntime) -> Result<(), Fail> {
         (1_048_576, 10_000, 100_000),
     ] {
         let chunk = long_pairs(rt.alloc(), key, value)?.ok_or("rising keys")?;
-        let chunk = chunk.copy(rt.alloc())?;
+        let chunk = chunk.copy()?;
         assert!(rt; is_read_back(rt.alloc(), block, &chunk)?, "{block}");
     }
     Ok(())

@@ -21,12 +21,12 @@ pub struct Chunk {
 
 impl Chunk {
     /// An equal chunk with memory of its own.
-    pub fn copy(&self, alloc: Global) -> Result<Self, AllocError>
+    pub fn copy(&self) -> Result<Self, AllocError>
         ensures { IfOk result (λ chunk. chunk ≡ self.now) }
     {
         let begin = self.begin.copy()?;
         let end = self.end.copy()?;
-        let pairs = self.pairs.copy(alloc)?;
+        let pairs = self.pairs.copy()?;
         Ok(Chunk {
             begin,
             end,

@@ -51,7 +51,7 @@ impl FileMap {
     pub fn new(alloc: Global, ranges: &Ranges) -> Result<Self, AllocError>
         ensures { IfOk result (λ map. map ≡ record { ranges = ranges.now; noted = [] }) }
     {
-        let ranges = ranges.copy(alloc)?;
+        let ranges = ranges.copy()?;
         Ok(FileMap {
             alloc,
             ranges,
@@ -148,7 +148,7 @@ impl FileMap {
     pub fn copy(&self) -> Result<Self, AllocError>
         ensures { IfOk result (λ map. map ≡ self.now) }
     {
-        let ranges = self.ranges.copy(self.alloc)?;
+        let ranges = self.ranges.copy()?;
         let mut noted = Vec::new(self.alloc);
         for one in &self.noted {
             let one = one.copy()?;

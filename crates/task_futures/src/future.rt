@@ -118,12 +118,12 @@ impl Future {
     }
 
     /// An equal future with memory of its own.
-    pub fn copy(&self, alloc: Global) -> Result<Self, AllocError>
+    pub fn copy(&self) -> Result<Self, AllocError>
         ensures { IfOk result (λ future. future ≡ self.now) }
     {
         let blocks = self.blocks.clone()?;
-        let callbacks = self.callbacks.copy(alloc)?;
-        let joins = Vec::from_slice(alloc, &self.joins)?;
+        let callbacks = self.callbacks.copy()?;
+        let joins = self.joins.clone()?;
         Ok(Future {
             number: self.number,
             blocks,

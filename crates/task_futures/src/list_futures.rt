@@ -93,7 +93,7 @@ fn linked_all(
 {
     let mut all = Vec::new(alloc);
     for one in futures {
-        let mut copy = one.copy(alloc)?;
+        let mut copy = one.copy()?;
         link(&mut copy, futures, parts, number)?;
         all.push(copy)?;
     }

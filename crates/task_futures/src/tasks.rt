@@ -83,10 +83,10 @@ impl Tasks {
     }
 
     /// An equal list with memory of its own.
-    pub fn copy(&self, alloc: Global) -> Result<Self, AllocError>
+    pub fn copy(&self) -> Result<Self, AllocError>
         ensures { IfOk result (λ tasks. tasks ≡ self.now) }
     {
-        let mut copy = Tasks::new(alloc);
+        let mut copy = Tasks::new(*self.tasks.allocator());
         copy.extend_from(self.as_slice())?;
         Ok(copy)
     }

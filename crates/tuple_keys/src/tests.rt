@@ -43,7 +43,7 @@ fn text_and_bytes_with_a_zero(rt: HostRuntime) -> Result<(), Fail> {
         .ok_or("the prefix is there")?;
     assert_eq!(rt; back.len(), 3);
     assert!(rt; space.strip(rt.alloc(), &[0xfe, 0])?.is_none());
-    assert_eq!(rt; back.copy(rt.alloc())?.len(), 3);
+    assert_eq!(rt; back.copy()?.len(), 3);
     Ok(())
 }
 

@@ -82,10 +82,10 @@ impl Tuple {
     }
 
     /// An equal tuple with memory of its own.
-    pub fn copy(&self, alloc: Global) -> Result<Self, AllocError>
+    pub fn copy(&self) -> Result<Self, AllocError>
         ensures { IfOk result (λ tuple. tuple ≡ self.now) }
     {
-        let mut elements = Vec::new(alloc);
+        let mut elements = Vec::new(*self.elements.allocator());
         for element in &self.elements {
             let element = element.copy()?;
             elements.push(element)?;

@@ -60,15 +60,14 @@ impl TryCopy for Command {
     }
 }
 
-// The ranges are copied into the memory that the copy of the tag has.
 fn opening(tag: &Text, side: Side, container: &Text, ranges: &Ranges) -> Result<Command, AllocError>
     ensures { IfOk result (λ command. command ≡ Open tag.now side container.now ranges.now) }
 {
-    let tag = tag.copy()?.into_string();
+    let tag = tag.copy()?;
     let container = container.copy()?;
-    let ranges = ranges.copy(*tag.allocator())?;
+    let ranges = ranges.copy()?;
     Ok(Command::Open {
-        tag: Text::from_string(tag),
+        tag,
         side,
         container,
         ranges,

@@ -1,26 +1,17 @@
-use Rattle.std.proofs.Common.{false, ◌||◌, take, take_all, sym, ap, ◌∙◌}
-use Rattle.fb_bytes.specs.Keys.{holds, in_ranges}
-use Rattle.fb_bytes.proofs.Unions.{holds_at, one_more_range}
+use Rattle.std.proofs.Common.{ap, ◌∙◌}
+use Rattle.fb_bytes.specs.Keys.{in_ranges}
+use Rattle.fb_bytes.proofs.Halving.{found_in, missing_in}
 use Rattle.fb_bytes.proofs.ranges.Ranges.contains.Goals as goal
 
-pub returns-then-contains : goal.returns-then-contains
-returns-then-contains c =
-    let list = c.deref-range-items.result.now in
-    let key = c.args.key.now in
-    let same = c.deref-range-items.ensures.value ∙ c.self.view_is in
-    let holding = ap (λ r. holds r key) (sym c.range-item.is) ∙ sym c.contains.ensures ∙ c.if-contains.true in
-    sym (ap (λ l. in_ranges l key) (sym same) ∙ holds_at list c.loop-range.range-index c.range-item.result key c.loop-range-test.true holding)
+pub returns-then-place-ranges : goal.returns-then-place-ranges
+returns-then-place-ranges c =
+    c.contains.ensures
+    ∙ found_in c.as_slice-ranges.result.now c.self.inside.ranges.items c.ranges_before-place.result c.args.key.now c.index-ranges-place.result
+    c.as_slice-ranges.ensures.value c.self.invariant.separate c.ranges_before-place.ensures c.if-place-ranges.true c.index-ranges-place.is
+    ∙ ap (λ list. in_ranges list c.args.key.now) c.self.view_is
 
-pub loop-range-preserved : goal.loop-range-preserved
-loop-range-preserved c =
-    let list = c.deref-range-items.result.now in
-    let key = c.args.key.now in
-    let missing = ap (λ r. holds r key) (sym c.range-item.is) ∙ sym c.contains.ensures ∙ c.if-contains.false in
-    one_more_range list c.loop-range.range-index c.range-item.result key c.loop-range-test.true
-    ∙ ap (λ b. in_ranges (take c.loop-range.range-index list) key || b) missing ∙ ap (λ b. b || false) c.loop-range.invariant
-
-pub returns : goal.returns
-returns c =
-    let list = c.deref-range-items.result.now in
-    let same = c.deref-range-items.ensures.value ∙ c.self.view_is in
-    sym (ap (λ l. in_ranges l c.args.key.now) (sym same ∙ sym (take_all c.loop-range.range-index list c.loop-range-test.false)) ∙ c.loop-range.invariant)
+pub returns-else-place-ranges : goal.returns-else-place-ranges
+returns-else-place-ranges c =
+    missing_in c.as_slice-ranges.result.now c.self.inside.ranges.items c.ranges_before-place.result c.args.key.now
+    c.as_slice-ranges.ensures.value c.self.invariant.separate c.ranges_before-place.ensures c.if-place-ranges.false
+    ∙ ap (λ list. in_ranges list c.args.key.now) c.self.view_is
