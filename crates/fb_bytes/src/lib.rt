@@ -3,6 +3,7 @@
 
 mod blob;
 mod compare;
+mod held;
 mod joining;
 mod key_range;
 mod names;
