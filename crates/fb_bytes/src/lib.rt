@@ -22,7 +22,7 @@ pub use names::Names;
 pub use pairs::{Pair, Pairs};
 pub use range_fault::RangeFault;
 pub use ranges::{Ranges, one_list};
-pub use seq::{Seq, TryCopy};
+pub use seq::{Seq, SharedSeq, TryCopy};
 pub use text::Text;
 pub use word::{one_reading, print_bytes, read_bytes};
 pub use word_fault::WordFault;

@@ -1,6 +1,7 @@
 //! The text form of bytes, as workloads and reports write keys and values.
 
 ghost use Rattle.std.specs.Prelude.{◌≡◌, ◌+◌, ◌<◌, ◌++◌, ◌↔◌, [], ◌⊎◌, length, string_bytes, IfOk, IfErr, IfSome, OnOk, IsErrOf, MatchResult};
+ghost use Rattle.std.specs.List.{list_all};
 ghost use Rattle.fb_bytes.specs.Bytes.{Bytes};
 ghost use Rattle.fb_bytes.specs.Words as words;
 ghost use Rattle.fb_bytes.specs.declared.word_fault.WordFault.TheVariants as faults;
@@ -37,6 +38,13 @@ fn push_letter(alloc: Global, word: &mut String, byte: u8) -> Result<(), AllocEr
     Ok(())
 }
 
+// Each byte stands for itself.
+fn are_plain(word: &[u8]) -> bool
+    ensures { result ≡ list_all words.is_plain word.now }
+{
+    word.iter().all(|byte| is_plain(*byte))
+}
+
 fn is_plain(byte: u8) -> bool
     ensures { result ≡ words.is_plain byte }
 {
@@ -68,6 +76,9 @@ fn read_letters(alloc: Global, word: &[u8]) -> Result<Blob, WordFault>
     if is_same(word, b"\\e") {
         return Ok(Blob::new(alloc));
     }
+    if are_plain(word) {
+        return Ok(Blob::from_slice(alloc, word)?);
+    }
     let mut bytes = Vec::new(alloc);
     let mut at = 0;
     'letters: while at < word.len() {
@@ -77,7 +88,7 @@ fn read_letters(alloc: Global, word: &[u8]) -> Result<Blob, WordFault>
         bytes.push(byte)?;
         at += 1 + more;
     }
-    Ok(Blob::from_vec(bytes))
+    Ok(Blob::from_slice(alloc, &bytes)?)
 }
 
 // The byte that the first letter spells, and how many bytes the letter takes behind its first.
