@@ -39,7 +39,8 @@ allowed_code settings clients operator schedule numbered = prop_coded (AllByRecu
 pub record Seen : Type 0 where
   pub workload : Workload
   pub state : State
-  -- the file store's count of faults
+  -- the file store's counts of calls and of faults
+  pub calls : ℕ
   pub faults : ℕ
 
 -- what the operator has: its jobs, how many of its commands have ended, and the next ticket

@@ -1,4 +1,4 @@
-ghost use Rattle.std.specs.Prelude.{◌≡◌, ◌+◌, ◌<◌, List, [], length, Some, Ok, Err, map, slice_get, ◌⊎◌, IfOk, IfErr, OnErr, IsErrOf};
+ghost use Rattle.std.specs.Prelude.{◌≡◌, ◌+◌, ◌<◌, ◌≤◌, List, [], length, Some, Ok, Err, map, slice_get, ◌⊎◌, IfOk, IfErr, OnErr, IsErrOf};
 ghost use Rattle.std.specs.Option.{option_copied};
 ghost use Rattle.fb_outside.specs.Faults.{Counts};
 ghost use Rattle.client_core.specs.Clients.{ClientState, new_client};
@@ -73,7 +73,7 @@ impl<V: Vault> Model for World<V> {
 
     ghost coded = { Prim.hlevel (codes, allowed_code) };
 
-    ghost view = { λ w. record { workload = w.workload; state = state_of w.clients.items w.src w.dst w.versions (record { jobs = w.jobs.items; place = w.place; tickets = w.tickets }) (V.files w.vault); faults = V.faults w.vault } };
+    ghost view = { λ w. record { workload = w.workload; state = state_of w.clients.items w.src w.dst w.versions (record { jobs = w.jobs.items; place = w.place; tickets = w.tickets }) (V.files w.vault); calls = V.calls w.vault; faults = V.faults w.vault } };
 
     ghost invariant = { λ w. IsWorld w.workload w.src w.dst w.versions (state_of w.clients.items w.src w.dst w.versions (record { jobs = w.jobs.items; place = w.place; tickets = w.tickets }) (V.files w.vault)) };
 }
@@ -83,6 +83,7 @@ impl<V: Vault> World<V> {
     pub fn open(alloc: Global, workload: &Workload, vault: V) -> Result<World<V>, OpenFault<V>>
         ensures workload { IfOk result (λ world. world.workload ≡ workload.now) }
         ensures opening { IfOk result (λ world. world.state ≡ opening workload.now (V.files vault)) }
+        ensures calls { IfOk result (λ world. world.calls ≡ V.calls vault) }
         ensures faults { IfOk result (λ world. world.faults ≡ V.faults vault) }
         ensures sound { IfOk result (λ world. Sound world.workload world.state) }
         ensures vault_back { IfErr result (λ fault. fault.vault ≡ vault) }
@@ -134,6 +135,8 @@ impl<V: Vault> World<V> {
     pub fn step(&mut self, event: &Event) -> Result<Answer, StepFault>
         ensures step { Step self.old.workload self.old.state event.now result self.new.state }
         ensures workload { self.new.workload ≡ self.old.workload }
+        // A step makes at most one call on the store.
+        ensures calls { self.new.calls ≤ self.old.calls + 1 }
         // The store's count of faults rose where the step was refused for it.
         ensures faults { Counts self.old.faults self.new.faults (IsErrOf result StepFault.VaultFault) }
         ensures sound { Sound self.new.workload self.new.state }
@@ -155,6 +158,7 @@ impl<V: Vault> World<V> {
         ensures jobs { result.jobs ≡ map spec.job_told self.state.jobs }
         ensures end { result.end ≡ self.state.time }
         ensures files { V.files result.vault ≡ self.state.files }
+        ensures calls { V.calls result.vault ≡ self.calls }
         ensures faults { V.faults result.vault ≡ self.faults }
         ensures sound { Sound self.workload self.state }
     {
@@ -183,6 +187,7 @@ impl<V: Vault> World<V> {
     fn begin(&mut self, number: u32) -> Answer
         ensures step { begin self.old.state number ≡ moved (Ok result) self.new.state }
         ensures workload { self.new.workload ≡ self.old.workload }
+        ensures calls { self.new.calls ≡ self.old.calls }
         ensures faults { self.new.faults ≡ self.old.faults }
         ensures files { self.new.state.files ≡ self.old.state.files }
     {
@@ -195,6 +200,7 @@ impl<V: Vault> World<V> {
     fn commit(&mut self, number: u32) -> Result<Answer, StepFault>
         ensures step { CommitSteps self.old.workload.settings self.old.state number result self.new.state }
         ensures workload { self.new.workload ≡ self.old.workload }
+        ensures calls { self.new.calls ≡ self.old.calls }
         ensures faults { self.new.faults ≡ self.old.faults }
         ensures files { self.new.state.files ≡ self.old.state.files }
         ensures refused { OnErr result (self.new.state ≡ self.old.state) }
@@ -218,6 +224,7 @@ impl<V: Vault> World<V> {
     fn operate(&mut self) -> Result<Answer, StepFault>
         ensures step { (luck : Luck) × (step self.old.workload self.old.state Event.Command luck ≡ moved result self.new.state) }
         ensures workload { self.new.workload ≡ self.old.workload }
+        ensures calls { self.new.calls ≤ self.old.calls + 1 }
         ensures faults { Counts self.old.faults self.new.faults (IsErrOf result StepFault.VaultFault) }
     {
         match self.plan()? {
@@ -249,6 +256,7 @@ impl<V: Vault> World<V> {
         requires { self.old.state.place < length self.old.workload.operator }
         ensures state { self.new.state ≡ gone_on self.old.state }
         ensures workload { self.new.workload ≡ self.old.workload }
+        ensures calls { self.new.calls ≡ self.old.calls }
         ensures faults { self.new.faults ≡ self.old.faults }
     {
         self.place = next_place(self.place, self.workload.operator.len());
@@ -261,6 +269,7 @@ impl<V: Vault> World<V> {
         requires room { self.old.state.place < length self.old.workload.operator }
         ensures step { (luck : Luck) × (step self.old.workload self.old.state Event.Command luck ≡ moved result self.new.state) }
         ensures workload { self.new.workload ≡ self.old.workload }
+        ensures calls { self.new.calls ≤ self.old.calls + 1 }
         ensures faults { Counts self.old.faults self.new.faults (IsErrOf result StepFault.VaultFault) }
     {
         match self
@@ -285,6 +294,7 @@ impl<V: Vault> World<V> {
         requires room { self.old.state.place < length self.old.workload.operator }
         ensures step { step self.old.workload self.old.state Event.Command (Fine []) ≡ moved (Ok Answer.Done) self.new.state }
         ensures workload { self.new.workload ≡ self.old.workload }
+        ensures calls { self.new.calls ≡ self.old.calls }
         ensures faults { self.new.faults ≡ self.old.faults }
     {
         let side = self.jobs[place].side();
@@ -305,6 +315,7 @@ impl<V: Vault> World<V> {
         requires room { self.old.state.place < length self.old.workload.operator }
         ensures step { (luck : Luck) × (step self.old.workload self.old.state Event.Command luck ≡ moved result self.new.state) }
         ensures workload { self.new.workload ≡ self.old.workload }
+        ensures calls { self.new.calls ≤ self.old.calls + 1 }
         ensures faults { Counts self.old.faults self.new.faults (IsErrOf result StepFault.VaultFault) }
     {
         match self.least_name(&container) {
@@ -323,6 +334,7 @@ impl<V: Vault> World<V> {
         ensures fault { IfErr result (λ fault. (fault ≡ StepFault.VaultFault) ⊎ (fault ≡ StepFault.NoMemory)) }
         ensures state { self.new.state ≡ self.old.state }
         ensures workload { self.new.workload ≡ self.old.workload }
+        ensures calls { self.new.calls ≤ self.old.calls + 1 }
         ensures faults { Counts self.old.faults self.new.faults (IsErrOf result StepFault.VaultFault) }
     {
         match list_names(self.alloc, &mut self.vault, container) {
@@ -349,6 +361,7 @@ impl<V: Vault> World<V> {
         requires room { self.old.state.place < length self.old.workload.operator }
         ensures step { (luck : Luck) × (step self.old.workload self.old.state Event.Command luck ≡ moved result self.new.state) }
         ensures workload { self.new.workload ≡ self.old.workload }
+        ensures calls { self.new.calls ≡ self.old.calls }
         ensures faults { self.new.faults ≡ self.old.faults }
         ensures no_fault { IsErrOf result StepFault.VaultFault → ⊥ }
     {

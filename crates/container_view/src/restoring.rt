@@ -1,6 +1,6 @@
 //! What is read of a container before a version is restored.
 
-ghost use Rattle.std.specs.Prelude.{◌≡◌, ◌⊎◌, List, Some, None, Ok, Err, ok_or, option_map, IfOk, IfErr, IsErrOf};
+ghost use Rattle.std.specs.Prelude.{◌≡◌, ◌+◌, ◌≤◌, ◌⊎◌, List, Some, None, Ok, Err, ok_or, option_map, IfOk, IfErr, IsErrOf};
 ghost use Rattle.container_view.specs.Files.{inside};
 ghost use Rattle.container_view.specs.Sets as spec;
 ghost use Rattle.container_view.specs.declared.view.ViewFault.TheVariants as faults;
@@ -43,6 +43,7 @@ pub fn get_file<V: Vault>(
     ensures err { IfErr result (λ fault. (files : List File) → V.files vault.old ≡ Some files → spec.Fails fault (ok_or (file_of (inside container.now files) name.now) (faults.Missing name.now))) }
     ensures same { V.files vault.new ≡ V.files vault.old }
     ensures count { Counts (V.faults vault.old) (V.faults vault.new) (IsErrOf result ViewFault.VaultFault) }
+    ensures called { V.calls vault.new ≤ V.calls vault.old + 1 }
 {
     let whole = whole_name(alloc, container, name.as_str())?;
     match vault.get(alloc, &whole)? {
@@ -56,7 +57,8 @@ pub fn get_file<V: Vault>(
 
 /// What a restore of a version needs of a container, or the first fault: the folder has no file, a
 /// property is damaged, unreliable first, the version isn't advertised, the manifest is gone or
-/// damaged, a range file of it isn't listed. A property that the names don't list isn't read.
+/// damaged, a range file of it isn't listed. A property that the names don't list isn't read: one list
+/// and at most three files.
 pub fn restore_set<V: Vault>(
     alloc: Global,
     vault: &mut V,
@@ -67,6 +69,7 @@ pub fn restore_set<V: Vault>(
     ensures err { IfErr result (λ fault. (files : List File) → V.files vault.old ≡ Some files → spec.Fails fault (spec.set_of (inside container.now files) version)) }
     ensures same { V.files vault.new ≡ V.files vault.old }
     ensures count { Counts (V.faults vault.old) (V.faults vault.new) (IsErrOf result ViewFault.VaultFault) }
+    ensures called { V.calls vault.new ≤ V.calls vault.old + 4 }
 {
     let names = list_names(alloc, vault, container)?;
     let unreliable = "properties/unreliable_end";
@@ -94,6 +97,7 @@ fn set_by<V: Vault>(
     ensures err { IfErr result (λ fault. (files : List File) → V.files vault.old ≡ Some files → spec.Fails fault (spec.set_by (inside container.now files) names.now unreliable version)) }
     ensures same { V.files vault.new ≡ V.files vault.old }
     ensures count { Counts (V.faults vault.old) (V.faults vault.new) (IsErrOf result ViewFault.VaultFault) }
+    ensures called { V.calls vault.new ≤ V.calls vault.old + 1 }
 {
     let Some(name) = manifest_for(names, unreliable, version) else {
         return Err(not_restorable(restorable(names, unreliable)));
@@ -129,6 +133,7 @@ fn get_manifest<V: Vault>(
     ensures err { IfErr result (λ fault. (files : List File) → V.files vault.old ≡ Some files → spec.Fails fault (spec.manifest_at (inside container.now files) name.now)) }
     ensures same { V.files vault.new ≡ V.files vault.old }
     ensures count { Counts (V.faults vault.old) (V.faults vault.new) (IsErrOf result ViewFault.VaultFault) }
+    ensures called { V.calls vault.new ≤ V.calls vault.old + 1 }
 {
     let bytes = get_file(alloc, vault, container, name)?;
     read_manifest(alloc, name, bytes.as_slice())

@@ -1,6 +1,6 @@
 //! What a reader first learns of a container: the names of its files, and its properties.
 
-ghost use Rattle.std.specs.Prelude.{◌≡◌, ◌≢◌, ◌⊎◌, false, List, [], Option, Some, None, Ok, option_map, IfOk, IfErr, IsErrOf};
+ghost use Rattle.std.specs.Prelude.{◌≡◌, ◌≢◌, ◌+◌, ◌≤◌, ◌⊎◌, false, List, [], Option, Some, None, Ok, option_map, IfOk, IfErr, IsErrOf};
 ghost use Rattle.container_view.specs.Files.{name_in, whole_name, inside};
 ghost use Rattle.container_view.specs.Names.{names_inside, is_named};
 ghost use Rattle.container_view.specs.View.{view_fault_of, stripped};
@@ -8,7 +8,7 @@ ghost use Rattle.container_view.specs.Property.{property_in};
 ghost use Rattle.container_view.specs.declared.view.ViewFault.TheVariants as faults;
 ghost use Rattle.container_view.specs.declared.view.FileFault.TheVariants as file_faults;
 ghost use Rattle.fb_outside.specs.Files.{file_of};
-ghost use Rattle.fb_outside.specs.Faults.{Counts};
+ghost use Rattle.fb_outside.specs.Faults.{Counts, counted};
 ghost use Rattle.fb_outside.specs.declared.File.{File};
 
 use crate::read_property;
@@ -92,6 +92,7 @@ pub fn list_names<V: Vault>(
     ensures none { IsErrOf result ViewFault.NoContainer → (files : List File) → V.files vault.old ≡ Some files → names_inside container.now files ≡ [] }
     ensures same { V.files vault.new ≡ V.files vault.old }
     ensures count { Counts (V.faults vault.old) (V.faults vault.new) (IsErrOf result ViewFault.VaultFault) }
+    ensures called { V.calls vault.new ≡ counted (V.calls vault.old) }
 {
     let names = vault.list(alloc, container)?;
     let names = relative(alloc, container, &names)?;
@@ -115,6 +116,7 @@ pub fn get_property<V: Vault>(
     ensures unlisted { is_named names.now property.now ≡ false → (result ≡ Ok None) × (V.faults vault.new ≡ V.faults vault.old) }
     ensures same { V.files vault.new ≡ V.files vault.old }
     ensures count { Counts (V.faults vault.old) (V.faults vault.new) (IsErrOf result ViewFault.VaultFault) }
+    ensures called { V.calls vault.new ≤ V.calls vault.old + 1 }
 {
     if !is_named(names, property) {
         return Ok(None);

@@ -1,11 +1,7 @@
 -- Which calls of an object in memory fail, and how many did.
-use Rattle.std.specs.Prelude.{ℕ, ◌+◌, nat_eq, nat_lt, Bool, ◌||◌, List, if◌then◌else◌}
+use Rattle.std.specs.Prelude.{ℕ, nat_eq, nat_lt, Bool, ◌||◌, List}
 use Rattle.std.specs.List.{list_any}
-use Rattle.fb_outside.specs.Faults.{most_faults}
-
--- a count after one more: at its end it stays
-abbrev pub counted : ℕ → ℕ
-counted count = if nat_eq count most_faults then count else count + 1
+use Rattle.fb_outside.specs.Faults.{counted}
 
 -- the calls so far, those that are to fail, the last that may go well, and the faults so far
 pub record Calls : Type 0 where

@@ -2,6 +2,7 @@
 
 ghost use Rattle.std.specs.Prelude.{◌≡◌, [], IfOk, if◌then◌else◌};
 ghost use Rattle.fb_outside.specs.Calls as calls;
+ghost use Rattle.fb_outside.specs.Faults as counts;
 ghost use Rattle.fb_outside.specs.Faults.{most_faults};
 
 use std::alloc::{AllocError, Global};
@@ -91,7 +92,7 @@ impl Calls {
 }
 
 pub fn counted(count: u64) -> u64
-    ensures { result ≡ calls.counted count }
+    ensures { result ≡ counts.counted count }
 {
     if count == u64::MAX { count } else { count + 1 }
 }

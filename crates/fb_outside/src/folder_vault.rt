@@ -1,4 +1,5 @@
 ghost use Rattle.std.specs.Prelude.{◌≡◌, IsErrOf};
+ghost use Rattle.fb_outside.specs.Faults as counts;
 ghost use Rattle.fb_outside.specs.Faults.{Counts};
 
 use crate::calls::counted;
@@ -21,34 +22,39 @@ const MOST_FOLDERS: u32 = 1_000_000;
 pub struct FolderVault<R: Files + AllocGlobal + Clone + Drop> {
     rt: R,
     root: Text,
+    calls: u64,
     faults: u64,
 }
 
 impl<R: Files + AllocGlobal + Clone + Drop> Model for FolderVault<R> {
-    ghost use Rattle.std.specs.Prelude.{ℕ};
+    ghost use Rattle.fb_outside.specs.Faults.{Tally};
 
-    ghost Value = { ℕ };
+    ghost Value = { Tally };
 
-    ghost view = { λ v. v.faults };
+    ghost view = { λ v. record { calls = v.calls; faults = v.faults } };
 }
 
 impl<R: Files + AllocGlobal + Clone + Drop> FolderVault<R> {
     /// The store in the folder `root`, which need not be there before the first put.
     pub fn new(rt: R, root: Text) -> Self
-        ensures { result ≡ 0 }
+        ensures calls { result.calls ≡ 0 }
+        ensures faults { result.faults ≡ 0 }
     {
         FolderVault {
             rt,
             root,
+            calls: 0,
             faults: 0,
         }
     }
 
-    // Counts a fault where the answer is one.
+    // Counts a call, and a fault where the answer is one.
     fn count<T: Drop>(&mut self, answer: Result<T, VaultFail>) -> Result<T, VaultFail>
         ensures same { result ≡ answer }
-        ensures count { Counts self.old self.new (IsErrOf answer VaultFail.Failed) }
+        ensures count { Counts self.old.faults self.new.faults (IsErrOf answer VaultFail.Failed) }
+        ensures called { self.new.calls ≡ counts.counted self.old.calls }
     {
+        self.calls = counted(self.calls);
         if matches!(answer, Err(VaultFail::Failed)) {
             self.faults = counted(self.faults);
         }
@@ -115,6 +121,8 @@ impl<R: Files + AllocGlobal + Clone + Drop> FolderVault<R> {
         file.write_all(bytes)?;
         file.sync_all()?;
         fs::rename(&self.rt, draft.as_str(), path.as_str())?;
+        // The folder holds the names: without this a loss of power could take the rename back.
+        fs::open(&self.rt, folder)?.sync_all()?;
         Ok(())
     }
 
@@ -130,7 +138,9 @@ impl<R: Files + AllocGlobal + Clone + Drop> FolderVault<R> {
 impl<R: Files + AllocGlobal + Clone + Drop + Send> Vault for FolderVault<R> {
     ghost use Rattle.std.specs.Prelude.{None};
 
-    ghost faults = { λ v. v };
+    ghost faults = { λ v. v.faults };
+
+    ghost calls = { λ v. v.calls };
 
     ghost files = { λ _. None };
 

@@ -74,6 +74,8 @@ impl Vault for MemVault {
 
     ghost faults = { λ v. v.calls.faults };
 
+    ghost calls = { λ v. v.calls.made };
+
     ghost files = { λ v. in_order v.files };
 
     fn list(&mut self, alloc: Global, folder: &Text) -> Result<Names, VaultFail>

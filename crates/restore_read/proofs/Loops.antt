@@ -1,7 +1,6 @@
 -- Files that are read one after the other.
-use Rattle.std.proofs.Common.{◌≡◌, ◌∙◌, ℕ, ◌+◌, ◌<◌, ◌≤◌, List, [], ◌∷◌, ◌++◌, length, drop, get_or, Result, Ok, Err, inl, inr, refl, sym, ap, append_assoc, arith}
+use Rattle.std.proofs.Common.{◌≡◌, ◌∙◌, ℕ, ◌+◌, ◌<◌, List, [], ◌∷◌, ◌++◌, length, drop, get_or, Result, Ok, Err, inl, inr, refl, sym, ap, append_assoc}
 use Rattle.std.proofs.lemmas.List.{drop_more}
-use Rattle.fb_outside.specs.Faults.{Counts}
 use Rattle.container_view.specs.declared.ViewFault.{ViewFault}
 use Rattle.container_view.specs.Sets.{◌>>=◌, Fails}
 use Rattle.restore_read.specs.Reading.{each_or}
@@ -37,7 +36,3 @@ module _ {A B : Type 0} (read : A → Result B ViewFault) where
       ∙ ap (with_rest front) (left xs i x h is)
       ∙ ap (λ (r : Result B ViewFault). (r >>= λ z. each_or read (drop (i + 1) xs) >>= λ ys. Ok (z ∷ ys)) >>= λ ys. Ok (front ++ ys)) e
       ))
-
--- a count that never fell, over one call more
-pub later : (first old new : ℕ) (Failing : Type 0) → first ≤ old → Counts old new Failing → first ≤ new
-later first old new Failing h c = let l : old ≤ new = c.later in omega arith

@@ -1,5 +1,5 @@
 -- What a container's files say for a version, or the first fault.
-use Rattle.std.specs.Prelude.{ℕ, List, [], ◌∷◌, Option, Some, None, Result, Ok, Err, ok_or, unwrap_or, slice_get}
+use Rattle.std.specs.Prelude.{ℕ, ◌+◌, List, [], ◌∷◌, length, Option, Some, None, Result, Ok, Err, ok_or, unwrap_or, slice_get}
 use Rattle.fb_bytes.specs.Bytes.{Bytes}
 use Rattle.fb_outside.specs.Files.{file_of}
 use Rattle.fb_outside.specs.declared.File.{File}
@@ -10,9 +10,11 @@ use Rattle.file_names.specs.Reading.{name_of}
 use Rattle.range_files.specs.Reading as ranges
 use Rattle.log_files.specs.Reading as logs
 use Rattle.container_view.specs.declared.Link.{Link}
+use Rattle.container_view.specs.Files.{inside}
 use Rattle.container_view.specs.declared.FileFault.TheVariants as file_faults
 use Rattle.container_view.specs.declared.ViewFault.{ViewFault}
 use Rattle.container_view.specs.declared.ViewFault.TheVariants as faults
+use Rattle.container_view.specs.declared.RestoreSet.{RestoreSet}
 use Rattle.container_view.specs.Sets.{◌>>=◌, in_file, set_of}
 use Rattle.restore_apply.specs.declared.At.{At}
 use Rattle.restore_apply.specs.declared.Loaded.{Loaded}
@@ -80,3 +82,13 @@ loaded_of files version = do
   loaded ← files_at files set.ranges
   links ← each_or (link_at files) set.links
   Ok (record { files = loaded; links = links })
+
+-- how many files a set has; without a set there are none
+abbrev pub set_files : Result RestoreSet ViewFault → ℕ
+set_files (Ok set) = length set.ranges + length set.links
+set_files (Err fault) = 0
+
+-- How many calls on the store a restore makes at most: a list, a get for each of two properties and
+-- for a manifest, and one get for each file of the set.
+abbrev pub most_calls : Bytes → List File → ℕ → ℕ
+most_calls container files version = 4 + set_files (set_of (inside container files) version)

@@ -1,6 +1,6 @@
 //! The log files of a chain.
 
-ghost use Rattle.std.specs.Prelude.{◌≡◌, ◌⊎◌, true, List, Some, Ok, Err, IfOk, IfErr, IsErrOf};
+ghost use Rattle.std.specs.Prelude.{◌≡◌, ◌+◌, ◌≤◌, ◌⊎◌, true, List, length, Some, Ok, Err, IfOk, IfErr, IsErrOf};
 ghost use Rattle.fb_outside.specs.Faults.{Counts};
 ghost use Rattle.fb_outside.specs.declared.File.{File};
 ghost use Rattle.block_frame.specs.Profiles as profiles;
@@ -31,6 +31,7 @@ pub(crate) fn get_links<V: Vault>(
     ensures err { IfErr result (λ fault. (files : List File) → V.files vault.old ≡ Some files → Fails fault (spec.each_or (spec.link_at (inside container.now files)) links.now)) }
     ensures same { V.files vault.new ≡ V.files vault.old }
     ensures count { Counts (V.faults vault.old) (V.faults vault.new) (IsErrOf result ViewFault.VaultFault) }
+    ensures called { V.calls vault.new ≤ V.calls vault.old + length links.now }
 {
     let mut loaded = Seq::new(alloc);
     'links: for link in links.as_slice() {
@@ -54,6 +55,7 @@ fn get_link<V: Vault>(
     ensures err { IfErr result (λ fault. (files : List File) → V.files vault.old ≡ Some files → Fails fault (spec.link_at (inside container.now files) link.now)) }
     ensures same { V.files vault.new ≡ V.files vault.old }
     ensures count { Counts (V.faults vault.old) (V.faults vault.new) (IsErrOf result ViewFault.VaultFault) }
+    ensures called { V.calls vault.new ≤ V.calls vault.old + 1 }
 {
     let bytes = get_file(alloc, vault, container, &link.name)?;
     read_link(alloc, link, bytes.as_slice())

@@ -1,6 +1,6 @@
 //! The range files of a manifest.
 
-ghost use Rattle.std.specs.Prelude.{◌≡◌, ◌⊎◌, List, [], Some, None, Ok, Err, IfOk, IfErr, IsErrOf};
+ghost use Rattle.std.specs.Prelude.{◌≡◌, ◌+◌, ◌≤◌, ◌⊎◌, List, [], length, Some, None, Ok, Err, IfOk, IfErr, IsErrOf};
 ghost use Rattle.fb_outside.specs.Faults.{Counts};
 ghost use Rattle.fb_outside.specs.declared.File.{File};
 ghost use Rattle.file_names.specs.Reading.{name_of};
@@ -30,6 +30,7 @@ pub(crate) fn get_ranges<V: Vault>(
     ensures err { IfErr result (λ fault. (files : List File) → V.files vault.old ≡ Some files → Fails fault (spec.files_at (inside container.now files) names.now)) }
     ensures same { V.files vault.new ≡ V.files vault.old }
     ensures count { Counts (V.faults vault.old) (V.faults vault.new) (IsErrOf result ViewFault.VaultFault) }
+    ensures called { V.calls vault.new ≤ V.calls vault.old + length names.now }
 {
     let loaded = get_each(alloc, vault, container, names)?;
     match overlap(alloc, loaded.as_slice())? {
@@ -65,6 +66,7 @@ fn get_each<V: Vault>(
     ensures err { IfErr result (λ fault. (files : List File) → V.files vault.old ≡ Some files → Fails fault (spec.each_or (spec.range_at (inside container.now files)) names.now)) }
     ensures same { V.files vault.new ≡ V.files vault.old }
     ensures count { Counts (V.faults vault.old) (V.faults vault.new) (IsErrOf result ViewFault.VaultFault) }
+    ensures called { V.calls vault.new ≤ V.calls vault.old + length names.now }
 {
     let mut loaded = Seq::new(alloc);
     'names: for name in names.as_slice() {
@@ -88,6 +90,7 @@ fn get_range<V: Vault>(
     ensures err { IfErr result (λ fault. (files : List File) → V.files vault.old ≡ Some files → Fails fault (spec.range_at (inside container.now files) name.now)) }
     ensures same { V.files vault.new ≡ V.files vault.old }
     ensures count { Counts (V.faults vault.old) (V.faults vault.new) (IsErrOf result ViewFault.VaultFault) }
+    ensures called { V.calls vault.new ≤ V.calls vault.old + 1 }
 {
     let bytes = get_file(alloc, vault, container, name)?;
     read_file(alloc, name, bytes.as_slice())

@@ -1,6 +1,6 @@
 //! The pairs of a container at a version.
 
-ghost use Rattle.std.specs.Prelude.{◌≡◌, List, Some, None, Ok, IfOk, IfErr, IsErrOf};
+ghost use Rattle.std.specs.Prelude.{◌≡◌, ◌+◌, ◌≤◌, List, Some, None, Ok, IfOk, IfErr, IsErrOf};
 ghost use Rattle.fb_bytes.specs.Bytes.{Bytes};
 ghost use Rattle.fb_bytes.specs.Pairs.{AreRising, value_of};
 ghost use Rattle.fb_outside.specs.Faults.{Counts};
@@ -20,7 +20,8 @@ use restore_apply::{Loaded, pairs_at};
 use std::alloc::Global;
 
 /// The pairs that a container has at a version, or the first fault. The container's files are read in
-/// order: its set, the manifest's range files, which mustn't overlap, and the chain's log files.
+/// order: its set, the manifest's range files, which mustn't overlap, and the chain's log files. Each is
+/// got once.
 pub fn restore<V: Vault>(
     alloc: Global,
     vault: &mut V,
@@ -32,6 +33,8 @@ pub fn restore<V: Vault>(
     ensures err { IfErr result (λ fault. (files : List File) → V.files vault.old ≡ Some files → Fails fault (spec.loaded_of (inside container.now files) version)) }
     ensures same { V.files vault.new ≡ V.files vault.old }
     ensures count { Counts (V.faults vault.old) (V.faults vault.new) (IsErrOf result ViewFault.VaultFault) }
+    ensures called { (files : List File) → V.files vault.old ≡ Some files →
+        V.calls vault.new ≤ V.calls vault.old + spec.most_calls container.now files version }
 {
     let set = load(alloc, vault, container, version)?;
     let pairs = pairs_at(alloc, &set, version)?;
@@ -51,6 +54,8 @@ fn load<V: Vault>(
     ensures err { IfErr result (λ fault. (files : List File) → V.files vault.old ≡ Some files → Fails fault (spec.loaded_of (inside container.now files) version)) }
     ensures same { V.files vault.new ≡ V.files vault.old }
     ensures count { Counts (V.faults vault.old) (V.faults vault.new) (IsErrOf result ViewFault.VaultFault) }
+    ensures called { (files : List File) → V.files vault.old ≡ Some files →
+        V.calls vault.new ≤ V.calls vault.old + spec.most_calls container.now files version }
 {
     let set = restore_set(alloc, vault, container, version)?;
     let files = match get_ranges(alloc, vault, container, &set.ranges) {

@@ -17,6 +17,7 @@ put-tells x c =
       silent = λ e. absurd (never c.args.self.now.files c.ensures.was_ordered e);
       no_memory = λ e. ap in_order (IfErr-at_err _ e c.ensures.stays);
       count = search rules;
+      called = search rules;
     }
 
 pub delete-tells : goal.delete-tells
@@ -28,4 +29,5 @@ delete-tells x c =
       silent = λ e. absurd (never c.args.self.now.files c.ensures.was_ordered e);
       no_memory = λ e. ap in_order (IfErr-at_err _ e c.ensures.stays);
       count = search rules;
+      called = search rules;
     }
