@@ -7,7 +7,7 @@ use Rattle.std.proofs.lemmas.Bool.{and_parts}
 use Rattle.fb_bytes.specs.Bytes.{Bytes, is_same}
 use Rattle.fb_bytes.specs.declared.word_fault.WordFault.{WordFault}
 use Rattle.fb_bytes.specs.declared.word_fault.WordFault.TheVariants.{Escape, Open}
-use Rattle.fb_bytes.specs.Words.{backslash, is_plain, byte_of, IsLetterOf, AreLettersOf, IsWordOf, empty_word, escape_at, letter_at, in_front, next_letter, letters, word_reading}
+use Rattle.fb_bytes.specs.Words.{backslash, is_plain, byte_of, IsLetterOf, AreLettersOf, IsWordOf, empty_word, escape_at, letter_at, in_front, next_letter, letters, letter_of, letters_of, printed, word_reading}
 use Rattle.fb_bytes.specs.Options.{◌>>=◌}
 use Rattle.fb_bytes.proofs.Order.{same_eq, same_itself}
 
@@ -233,3 +233,13 @@ plain_letters at (first ∷ word) h =
 pub read_plain : (word : Bytes) → is_same word empty_word ≡ false → list_all is_plain word ≡ true → (word ≡ [] → ⊥) → word_reading word ≡ Ok word
 read_plain [] s h n = absurd (n refl)
 read_plain (first ∷ word) s h n = rw s (plain_letters 0 (first ∷ word) h)
+
+plain_printed : (bytes : Bytes) → list_all is_plain bytes ≡ true → letters_of bytes ≡ bytes
+plain_printed [] h = refl
+plain_printed (byte ∷ bytes) h =
+    let p = and_parts (is_plain byte) (list_all is_plain bytes) h in
+    rw p.0 (ap (λ xs. byte ∷ xs) (plain_printed bytes p.1))
+
+pub printed_plain : (bytes : Bytes) → (bytes ≡ [] → ⊥) → list_all is_plain bytes ≡ true → printed bytes ≡ bytes
+printed_plain [] n h = absurd (n refl)
+printed_plain (byte ∷ bytes) n h = plain_printed (byte ∷ bytes) h

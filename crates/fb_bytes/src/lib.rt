@@ -24,7 +24,7 @@ pub use range_fault::RangeFault;
 pub use ranges::{Ranges, one_list};
 pub use seq::{Seq, SharedSeq, TryCopy};
 pub use text::Text;
-pub use word::{one_reading, print_bytes, read_bytes};
+pub use word::{one_reading, print_bytes, put_printed, read_bytes};
 pub use word_fault::WordFault;
 
 #[cfg(test)]

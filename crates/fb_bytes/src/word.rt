@@ -25,6 +25,18 @@ pub fn print_bytes(alloc: Global, bytes: &[u8]) -> Result<Text, AllocError>
     Ok(Text::from_string(word))
 }
 
+/// Puts the word that `print_bytes` gives for the bytes behind what stands.
+pub fn put_printed(alloc: Global, out: &mut Blob, bytes: &[u8]) -> Result<(), AllocError>
+    ensures { OnOk result (out.new ≡ out.old ++ words.printed bytes.now) }
+{
+    if !bytes.is_empty() && are_plain(bytes) {
+        out.extend_from_slice(bytes)?;
+        return Ok(());
+    }
+    let word = print_bytes(alloc, bytes)?;
+    out.extend_from_slice(word.as_bytes())
+}
+
 fn push_letter(alloc: Global, word: &mut String, byte: u8) -> Result<(), AllocError>
     ensures { OnOk result (string_bytes word.new ≡ string_bytes word.old ++ words.letter_of byte) }
 {
