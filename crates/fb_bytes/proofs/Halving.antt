@@ -1,11 +1,11 @@
 -- A search by halving finds how many stand in front, and the one range that may have a key.
-use Rattle.std.proofs.Common.{◌≡◌, ℕ, zero, suc, ◌+◌, ◌<◌, ◌≤◌, Bool, true, false, not, cond, ◌&&◌, ◌||◌, List, [], ◌∷◌, length, get_or, refl, sym, ap, subst, ◌∙◌, arith}
+use Rattle.std.proofs.Common.{◌≡◌, ℕ, zero, suc, ◌+◌, ◌<◌, ◌≤◌, Bool, true, false, not, ◌&&◌, ◌||◌, List, [], ◌∷◌, length, get_or, refl, sym, ap, subst, ◌∙◌, arith}
 use Rattle.std.specs.List.{prefix_len}
 use Rattle.std.specs.List.Sorted.{IsPartitionedBy, IsPartitionPoint}
 use Rattle.std.proofs.lemmas.Bool.{cond-true, cond-false}
 use Rattle.fb_bytes.specs.Bytes.{Bytes, is_below}
 use Rattle.fb_bytes.specs.Keys.{KeyRange, holds, in_ranges, is_passed, AreSeparate}
-use Rattle.fb_bytes.proofs.Order.{below_trans, below_down, below_up, below_not_back, not_both}
+use Rattle.fb_bytes.proofs.Order.{below_trans, below_not_back, not_both}
 use Rattle.fb_bytes.proofs.Unions.{not_back}
 use Rattle.fb_bytes.proofs.Separate.{before_rest}
 

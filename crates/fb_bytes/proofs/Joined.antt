@@ -1,11 +1,11 @@
 -- The ranges that a list is joined to.
-use Rattle.std.proofs.Common.{◌≡◌, ℕ, ◌+◌, ◌<◌, ◌≤◌, zero, suc, Bool, true, false, ◌||◌, List, [], ◌∷◌, length, get_or, None, refl, sym, ap, ◌∙◌, arith}
+use Rattle.std.proofs.Common.{◌≡◌, ℕ, ◌<◌, suc, false, ◌||◌, List, [], ◌∷◌, length, get_or, None, refl, sym, ap, ◌∙◌, arith}
 use Rattle.std.specs.List.{AllByRecursion}
 use Rattle.fb_bytes.specs.Bytes.{Bytes}
 use Rattle.fb_bytes.specs.Keys.{KeyRange, holds, in_ranges, is_backwards, AreSeparate, AreRanges}
 use Rattle.fb_bytes.specs.RangeFaults.{range_fault}
-use Rattle.fb_bytes.specs.Joining.{with_range, joined}
-use Rattle.fb_bytes.proofs.Places.{sound_list, Sound}
+use Rattle.fb_bytes.specs.Joining.{joined}
+use Rattle.fb_bytes.proofs.Places.{sound_list}
 use Rattle.fb_bytes.proofs.Unions.{in_ranges-with_range, separate-with_range}
 use Rattle.fb_bytes.proofs.Separate.{same_list}
 

@@ -7,7 +7,7 @@ use Rattle.std.proofs.lemmas.Bool.{and_parts}
 use Rattle.fb_bytes.specs.Bytes.{Bytes, is_same}
 use Rattle.fb_bytes.specs.declared.word_fault.WordFault.{WordFault}
 use Rattle.fb_bytes.specs.declared.word_fault.WordFault.TheVariants.{Escape, Open}
-use Rattle.fb_bytes.specs.Words.{backslash, is_plain, byte_of, IsLetterOf, AreLettersOf, IsWordOf, empty_word, escape_at, letter_at, in_front, next_letter, letters, letter_of, letters_of, printed, word_reading}
+use Rattle.fb_bytes.specs.Words.{backslash, is_plain, byte_of, IsLetterOf, AreLettersOf, IsWordOf, empty_word, escape_at, letter_at, in_front, next_letter, letters, letters_of, printed, word_reading}
 use Rattle.fb_bytes.specs.Options.{◌>>=◌}
 use Rattle.fb_bytes.proofs.Order.{same_eq, same_itself}
 

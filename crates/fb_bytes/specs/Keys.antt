@@ -1,5 +1,21 @@
 -- Keys and ranges of keys.
-use Rattle.std.specs.Prelude.{◌≡◌, ◌≤◌, Bool, true, false, not, ◌&&◌, ◌||◌, List, [], ◌∷◌, length, Option, None, if◌then◌else◌}
+use Rattle.std.specs.Prelude.{
+  ◌≡◌,
+  ◌≤◌,
+  Bool,
+  true,
+  false,
+  not,
+  ◌&&◌,
+  ◌||◌,
+  List,
+  [],
+  ◌∷◌,
+  length,
+  Option,
+  None,
+  if◌then◌else◌,
+}
 use Rattle.std.specs.List.{AllByRecursion}
 pub use Rattle.fb_bytes.specs.declared.key_range.KeyRange.{KeyRange}
 use Rattle.fb_bytes.specs.Bytes.{Bytes, is_below}
@@ -41,7 +57,8 @@ BeginPast key (range ∷ ranges) = is_below key range.begin ≡ true
 -- in order, none empty, and no two overlap or touch
 abbrev pub AreSeparate : List KeyRange → Type 0
 AreSeparate [] = Unit {0}
-AreSeparate (range ∷ ranges) = (is_backwards range ≡ false) × BeginPast range.end ranges × AreSeparate ranges
+AreSeparate (range ∷ ranges) =
+    (is_backwards range ≡ false) × BeginPast range.end ranges × AreSeparate ranges
 
 -- what a job's ranges keep
 pub record AreRanges (ranges : List KeyRange) : Type 0 where
@@ -55,4 +72,6 @@ cut state ranges key = if in_ranges ranges key then state key else None
 
 -- two lists of separate ranges that have the same keys are the same list
 abbrev pub KeysTellRanges : Type 0
-KeysTellRanges = (a b : List KeyRange) → AreSeparate a → AreSeparate b → ((key : Bytes) → in_ranges a key ≡ in_ranges b key) → a ≡ b
+KeysTellRanges =
+    (a b : List KeyRange) → AreSeparate a → AreSeparate b
+    → ((key : Bytes) → in_ranges a key ≡ in_ranges b key) → a ≡ b

@@ -1,5 +1,6 @@
 pub mod Bytes
 pub mod Held
+pub mod Limits
 pub mod Options
 pub mod Results
 pub mod Keys

@@ -1,5 +1,18 @@
 -- Words on options and lists that definitions of many crates are made of.
-use Rattle.std.specs.Prelude.{◌≡◌, ℕ, ◌+◌, Bool, List, [], ◌∷◌, Option, Some, None, ◌⊎◌, if◌then◌else◌}
+use Rattle.std.specs.Prelude.{
+  ◌≡◌,
+  ℕ,
+  ◌+◌,
+  Bool,
+  List,
+  [],
+  ◌∷◌,
+  Option,
+  Some,
+  None,
+  ◌⊎◌,
+  if◌then◌else◌,
+}
 
 -- one of these is x
 abbrev pub IsIn : {X : Type 0} → X → List X → Type 0
@@ -27,7 +40,8 @@ better_of beats x (Some y) = if beats y x then y else x
 
 abbrev pub best_of : {A : Type 0} → (A → Bool) → (A → A → Bool) → List A → Option A
 best_of passes beats [] = None
-best_of passes beats (x ∷ xs) = if passes x then Some (better_of beats x (best_of passes beats xs)) else best_of passes beats xs
+best_of passes beats (x ∷ xs) =
+    if passes x then Some (better_of beats x (best_of passes beats xs)) else best_of passes beats xs
 
 -- the place of the first that passes, counted on from a number
 abbrev pub first_place_from : {A : Type 0} → ℕ → (A → Bool) → List A → Option ℕ

@@ -17,7 +17,8 @@ abbrev pub ok_side : {A E : Type 0} → Result A E → Option A
 ok_side (Ok x) = Some x
 ok_side (Err fault) = None
 
--- a failed call answers want of memory, by the fault that stands for it, or the fault that the reading meets
+-- a failed call answers want of memory, by the fault that stands for it, or the fault that the
+-- reading meets
 abbrev pub FailsBut : {A E : Type 0} → E → E → Result A E → Type 0
 FailsBut no_memory fault reading = (fault ≡ no_memory) ⊎ (reading ≡ Err fault)
 

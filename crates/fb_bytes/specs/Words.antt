@@ -1,5 +1,29 @@
 -- The text form of bytes: which words spell which bytes, and the one that is printed.
-use Rattle.std.specs.Prelude.{◌≡◌, ℕ, zero, suc, ◌+◌, ◌*◌, nat_le, nat_eq, Bool, true, not, ◌&&◌, [], ◌∷◌, ◌++◌, Option, Some, None, Result, Ok, Err, ◌⊎◌, if◌then◌else◌}
+use Rattle.std.specs.Prelude.{
+  ◌≡◌,
+  ℕ,
+  zero,
+  suc,
+  ◌+◌,
+  ◌*◌,
+  nat_le,
+  nat_eq,
+  Bool,
+  true,
+  not,
+  ◌&&◌,
+  [],
+  ◌∷◌,
+  ◌++◌,
+  Option,
+  Some,
+  None,
+  Result,
+  Ok,
+  Err,
+  ◌⊎◌,
+  if◌then◌else◌,
+}
 use Rattle.hex.specs.Hex.{hex_digit_value, encode_lower}
 use Rattle.fb_bytes.specs.declared.word_fault.WordFault.{WordFault}
 use Rattle.fb_bytes.specs.declared.word_fault.WordFault.TheVariants.{Escape, Open}
@@ -25,12 +49,15 @@ byte_of high low = do
 abbrev pub IsLetterOf : Bytes → ℕ → Type 0
 IsLetterOf letter byte =
     ((letter ≡ byte ∷ []) × (is_plain byte ≡ true))
-    ⊎ ((high : ℕ) × (low : ℕ) × (letter ≡ backslash ∷ 120 ∷ high ∷ low ∷ []) × (byte_of high low ≡ Some byte))
+    ⊎ ((high : ℕ) × (low : ℕ) × (letter ≡ backslash ∷ 120 ∷ high ∷ low ∷ [])
+    × (byte_of high low ≡ Some byte))
 
 -- a letter for each byte, one after the other
 abbrev pub AreLettersOf : Bytes → Bytes → Type 0
 AreLettersOf word [] = word ≡ []
-AreLettersOf word (byte ∷ bytes) = (letter : Bytes) × (rest : Bytes) × (word ≡ letter ++ rest) × IsLetterOf letter byte × AreLettersOf rest bytes
+AreLettersOf word (byte ∷ bytes) =
+    (letter : Bytes) × (rest : Bytes) × (word ≡ letter ++ rest) × IsLetterOf letter byte
+    × AreLettersOf rest bytes
 
 -- `\e`, which spells the empty string
 abbrev pub empty_word : Bytes
@@ -60,10 +87,12 @@ printed (byte ∷ bytes) = letters_of (byte ∷ bytes)
 
 -- behind a backslash: the byte that the escape spells, and how many bytes more it takes
 abbrev pub escape_at : Bytes → Option (ℕ × ℕ)
-escape_at (x ∷ high ∷ low ∷ word) = if nat_eq x 120 then byte_of high low >>= (λ byte. Some (byte, 3)) else None
+escape_at (x ∷ high ∷ low ∷ word) =
+    if nat_eq x 120 then byte_of high low >>= (λ byte. Some (byte, 3)) else None
 escape_at word = None
 
--- the byte that the letter at the front spells, and how many bytes the letter takes behind its first
+-- the byte that the letter at the front spells, and how many bytes the letter takes behind its
+-- first
 abbrev pub letter_at : Bytes → Option (ℕ × ℕ)
 letter_at [] = None
 letter_at (first ∷ word) =
@@ -80,14 +109,17 @@ abbrev pub next_letter : ℕ → Option (ℕ × ℕ) → (ℕ → Result Bytes W
 next_letter at None rest = Err (Escape at)
 next_letter at (Some letter) rest = in_front letter.0 (rest letter.1)
 
--- what the letters spell, or the first place where none begins; places count on from `at`, and the first
+-- what the letters spell, or the first place where none begins; places count on from `at`, and the
+-- first
 -- `taken` bytes belong to the letter before
 abbrev pub letters : ℕ → ℕ → Bytes → Result Bytes WordFault
 letters taken at [] = Ok []
-letters zero at (first ∷ word) = next_letter at (letter_at (first ∷ word)) (λ more. letters more (at + 1) word)
+letters zero at (first ∷ word) =
+    next_letter at (letter_at (first ∷ word)) (λ more. letters more (at + 1) word)
 letters (suc taken) at (first ∷ word) = letters taken (at + 1) word
 
 -- the bytes that a word spells, or its fault
 abbrev pub word_reading : Bytes → Result Bytes WordFault
 word_reading [] = Err Open
-word_reading (first ∷ word) = if is_same (first ∷ word) empty_word then Ok [] else letters 0 0 (first ∷ word)
+word_reading (first ∷ word) =
+    if is_same (first ∷ word) empty_word then Ok [] else letters 0 0 (first ∷ word)

@@ -37,10 +37,12 @@ impl Model for Ranges {
 impl Ranges {
     /// The keys of all the ranges of the list. Those that overlap or touch are joined.
     pub fn build(alloc: Global, list: &[KeyRange]) -> Result<Self, RangeFault>
-        ensures union { IfOk result (λ ranges. (key : Bytes) → in_ranges ranges key ≡ in_ranges list.now key) }
+        ensures union { IfOk result (λ ranges. (key : Bytes)
+            → in_ranges ranges key ≡ in_ranges list.now key) }
         ensures joined { IfOk result (λ ranges. ranges ≡ spec.joined list.now) }
         // A list with a fault is refused for that fault, before any memory is asked for. Any other is taken.
-        ensures refused { MatchOption (range_fault list.now) (IsOkUnless result RangeFault.NoMemory) (λ fault. result ≡ Err fault) }
+        ensures refused { MatchOption (range_fault list.now) (IsOkUnless result RangeFault.NoMemory)
+            (λ fault. result ≡ Err fault) }
     {
         if let Some(fault) = first_fault(list) {
             return Err(fault);
@@ -152,7 +154,8 @@ fn first_past_user(list: &[KeyRange]) -> Option<usize>
 
 fn joined(alloc: Global, list: &[KeyRange]) -> Result<Vec<KeyRange>, AllocError>
     requires { range_fault list.now ≡ None }
-    ensures union { IfOk result (λ ranges. (key : Bytes) → in_ranges ranges.items key ≡ in_ranges list.now key) }
+    ensures union { IfOk result (λ ranges. (key : Bytes) → in_ranges ranges.items key
+        ≡ in_ranges list.now key) }
     ensures joined { IfOk result (λ ranges. ranges.items ≡ spec.joined list.now) }
     ensures ranges { IfOk result (λ ranges. AreRanges ranges.items) }
 {

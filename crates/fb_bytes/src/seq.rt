@@ -148,14 +148,23 @@ impl<T: Drop> TryCopy for SharedSeq<T> {
     }
 }
 
-impl<T: TryCopy + Drop> TryCopy for Seq<T> {
-    fn copy(&self) -> Result<Self, AllocError> {
+impl<T: TryCopy + Drop> Seq<T> {
+    /// An equal list, each item with a copy of its own.
+    pub fn copy(&self) -> Result<Self, AllocError>
+        ensures { IfOk result (λ twin. twin ≡ self.now) }
+    {
         let mut items = Vec::with_capacity(*self.items.allocator(), self.items.len())?;
         for item in &self.items {
             let item = item.copy()?;
             items.push(item)?;
         }
         Ok(Seq { items })
+    }
+}
+
+impl<T: TryCopy + Drop> TryCopy for Seq<T> {
+    fn copy(&self) -> Result<Self, AllocError> {
+        Seq::copy(self)
     }
 }
 

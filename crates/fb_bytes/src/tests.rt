@@ -1,4 +1,4 @@
-use crate::{Blob, KeyRange, RangeFault, Ranges, print_bytes, read_bytes};
+use crate::{Blob, KeyRange, Names, Pairs, RangeFault, Ranges, SharedSeq, print_bytes, read_bytes};
 use std::alloc::{AllocError, Global};
 use std::test::Fail;
 
@@ -7,6 +7,21 @@ fn range(alloc: Global, begin: &[u8], end: &[u8]) -> Result<KeyRange, AllocError
         begin: Blob::from_slice(alloc, begin)?,
         end: Blob::from_slice(alloc, end)?,
     })
+}
+
+fn is_shared<T: Send + Sync>(_value: &T) -> bool {
+    true
+}
+
+#[test]
+fn what_it_keeps_may_be_shared(rt: HostRuntime) -> Result<(), Fail> {
+    let alloc = rt.alloc();
+    let ranges = Ranges::build(alloc, &[range(alloc, b"a", b"b")?])?;
+    assert!(rt; is_shared(&ranges));
+    assert!(rt; is_shared(&Pairs::new(alloc)));
+    assert!(rt; is_shared(&Names::new(alloc)));
+    assert!(rt; is_shared(&SharedSeq::from_vec(Vec::<Blob>::new(alloc))?));
+    Ok(())
 }
 
 #[test]

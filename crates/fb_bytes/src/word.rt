@@ -68,7 +68,8 @@ fn is_plain(byte: u8) -> bool
 pub fn read_bytes(alloc: Global, word: &[u8]) -> Result<Blob, WordFault>
     // What is read is spelled so, and what is spelled so is read.
     ensures found { IfOk result (λ blob. words.IsWordOf word.now blob) }
-    ensures only { (bytes : Bytes) → words.IsWordOf word.now bytes → MatchResult result (λ blob. blob ≡ bytes) (λ e. e ≡ faults.NoMemory) }
+    ensures only { (bytes : Bytes) → words.IsWordOf word.now bytes
+        → MatchResult result (λ blob. blob ≡ bytes) (λ e. e ≡ faults.NoMemory) }
     // Which fault it is.
     ensures ok { IfOk result (λ blob. words.word_reading word.now ≡ Ok blob) }
     ensures err { IfErr result (λ e. (e ≡ faults.NoMemory) ⊎ (words.word_reading word.now ≡ Err e)) }
