@@ -1,5 +1,5 @@
 -- What stays as one more piece is noted.
-use Rattle.std.proofs.Common.{◌≡◌, Bool, true, false, not, ◌||◌, List, [], ◌∷◌, map, Some, None, refl, sym, ◌∙◌, subst}
+use Rattle.std.proofs.Common.{◌≡◌, Bool, true, false, not, ◌||◌, List, [], ◌∷◌, map, Some, None, refl, sym, ap, ◌∙◌, subst}
 use Rattle.std.specs.List.{AllByRecursion}
 use Rattle.fb_bytes.specs.Bytes.{Bytes, is_below, is_same}
 use Rattle.fb_bytes.specs.Keys.{holds, in_ranges, is_backwards, AreSeparate}
@@ -10,8 +10,9 @@ use Rattle.snapshot_plan.specs.Noted.{Map, pieces_of, with_noted, fault_of}
 use Rattle.manifests.specs.Files.{version_of}
 use Rattle.snapshot_plan.specs.Pieces.{ArePieces, outside, overlap, IsFirstOrNone}
 use Rattle.snapshot_plan.proofs.Manifests.{placed_all, placed_cases, same_turn}
+use Rattle.snapshot_plan.proofs.Taking.{take_back_law}
 use Rattle.snapshot_plan.proofs.Walking.{piece_law, may_stay, no_overlap, no_outside}
-use Rattle.backup_core.specs.Manifests.{NotedThere, AreInside, NotingLaw}
+use Rattle.backup_core.specs.Manifests.{NotedThere, AreInside, NotingLaw, UndoLaw}
 use Rattle.backup_core.proofs.Manifests.{from_not}
 
 either_held : (a b : Bool) → (a || b) ≡ true → (a ≡ false) → b ≡ true
@@ -22,7 +23,7 @@ inside_is : (map : Map) (one : Noted) → AreSeparate map.ranges → is_backward
 inside_is map one separate proper none inside key h = go (holds one.piece key) refl
   where
     pieces : IsFirstOrNone (holds one.piece) (λ k. not (in_ranges map.ranges k)) None
-    pieces = subst (IsFirstOrNone (holds one.piece) (λ k. not (in_ranges map.ranges k))) (no_outside (outside map.ranges one.piece) (overlap (pieces_of map.noted) one.piece) none) (piece_law.outside map.ranges one.piece (piece_law.ranges map.ranges separate) proper)
+    pieces = subst (IsFirstOrNone (holds one.piece) (λ k. not (in_ranges map.ranges k))) (no_outside (outside map.ranges one.piece) (overlap (pieces_of map.noted) one.piece) none) (piece_law.outside map.ranges one.piece (piece_law.ranges map.ranges separate))
 
     go : (b : Bool) → holds one.piece key ≡ b → in_ranges map.ranges key ≡ true
     go true e = from_not (in_ranges map.ranges key) (pieces key e)
@@ -58,3 +59,6 @@ noting_law = record {
   names = λ one noted h a. placed_all (λ n. version_of n.file.name ≡ Some n.file.version) (λ m. is_below m.piece.begin one.piece.begin) one noted h.0 a;
   distinct = distinct_is;
 }
+
+pub undo_law : UndoLaw
+undo_law job piece now file = ap (λ (ns : List Noted). record job { map = record job.map { noted = ns } }) (take_back_law (record { piece = piece; file = file }) job.map.noted)

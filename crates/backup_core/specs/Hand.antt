@@ -8,7 +8,7 @@ use Rattle.file_names.specs.Spelling.{spelling}
 use Rattle.manifests.specs.Grammar.{name_for}
 use Rattle.snapshot_plan.specs.declared.Done.{Done}
 use Rattle.snapshot_plan.specs.declared.Noted.{Noted}
-use Rattle.snapshot_plan.specs.Noted.{Map, with_noted, manifest_of}
+use Rattle.snapshot_plan.specs.Noted.{Map, with_noted, without, manifest_of}
 
 -- what contracts see of a hand job
 pub record HandJob : Type 0 where
@@ -24,7 +24,13 @@ pub record HandJob : Type 0 where
 
 -- a job of these ranges that logs from the version on and has dumped nothing
 abbrev pub opened : List KeyRange → ℕ → HandJob
-opened ranges version = record { map = record { ranges = ranges; noted = [] }; begin = version; next = version; snapshot = 0; aborted = false }
+opened ranges version = record {
+  map = record { ranges = ranges; noted = [] };
+  begin = version;
+  next = version;
+  snapshot = 0;
+  aborted = false;
+}
 
 -- the first where no piece is noted, else the second
 abbrev pub begun_at : List Noted → ℕ → ℕ → ℕ
@@ -53,7 +59,15 @@ text_of name = unwrap_or (spelling name) []
 
 -- the job once a piece was dumped at this version into this file
 abbrev pub dumped : HandJob → KeyRange → ℕ → Done → HandJob
-dumped job piece now file = record job { snapshot = snapshot_at job now; map = record job.map { noted = with_noted (record { piece = piece; file = file }) job.map.noted } }
+dumped job piece now file = record job {
+  snapshot = snapshot_at job now;
+  map = record job.map { noted = with_noted (record { piece = piece; file = file }) job.map.noted };
+}
+
+-- the job once the piece that begins at the key is taken back, before which its snapshot had this number
+abbrev pub taken_back : HandJob → Bytes → ℕ → HandJob
+taken_back job begin snapshot =
+    record job { snapshot = snapshot; map = record job.map { noted = without begin job.map.noted } }
 
 -- the job once its log files reach through this version
 abbrev pub cut_to : HandJob → ℕ → HandJob

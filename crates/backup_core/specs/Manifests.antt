@@ -1,10 +1,12 @@
 -- When the manifest of noted files is honest.
-use Rattle.std.specs.Prelude.{◌≡◌, ◌≢◌, true, false, List, [], ◌∷◌, Some, None}
+use Rattle.std.specs.Prelude.{ℕ, ◌≡◌, ◌≢◌, true, false, List, [], ◌∷◌, Some, None}
 use Rattle.std.specs.List.{AllByRecursion}
 use Rattle.fb_bytes.specs.Bytes.{Bytes}
 use Rattle.fb_bytes.specs.declared.KeyRange.{KeyRange}
 use Rattle.fb_bytes.specs.declared.Pair.{Pair}
 use Rattle.fb_bytes.specs.Keys.{is_backwards, in_ranges, AreSeparate}
+use Rattle.backup_core.specs.Hand.{HandJob, dumped, taken_back}
+use Rattle.snapshot_plan.specs.declared.Done.{Done}
 use Rattle.snapshot_plan.specs.declared.Noted.{Noted}
 use Rattle.snapshot_plan.specs.Listing.{noted_names, IsNew, AreDistinct, HaveRangeNames}
 use Rattle.snapshot_plan.specs.Noted.{Map, pieces_of, with_noted, fault_of, gap, manifest_of}
@@ -32,6 +34,11 @@ pub record NotingLaw : Type 0 where
   pub there : (ranges : List RangeFile) (one : Noted) (noted : List Noted) → NotedThere ranges one → AllByRecursion (NotedThere ranges) noted → AllByRecursion (NotedThere ranges) (with_noted one noted)
   pub names : (one : Noted) (noted : List Noted) → HaveRangeNames (one ∷ []) → HaveRangeNames noted → HaveRangeNames (with_noted one noted)
   pub distinct : (one : Noted) (noted : List Noted) → IsNew one.file.name (noted_names noted) → AreDistinct (noted_names noted) → AreDistinct (noted_names (with_noted one noted))
+
+-- a dump that is taken back leaves the job as it was
+abbrev pub UndoLaw : Type 0
+UndoLaw = (job : HandJob) (piece : KeyRange) (now : ℕ) (file : Done)
+    → taken_back (dumped job piece now file) piece.begin job.snapshot ≡ job
 
 -- noted pieces inside the ranges that leave no gap tile them
 abbrev pub TilingLaw : Type 0

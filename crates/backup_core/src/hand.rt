@@ -1,9 +1,9 @@
 //! What a hand job keeps between its calls.
 
-ghost use Rattle.std.specs.Prelude.{◌≡◌, ◌+◌, ◌<◌, ◌^◌, false, Some, None, IfOk, IfErr, OnOk, option_map, ◌⊎◌};
+ghost use Rattle.std.specs.Prelude.{◌≡◌, ◌+◌, ◌<◌, ◌≤◌, ◌^◌, false, Some, None, IfOk, IfErr, OnOk, OnErr, option_map, ◌⊎◌};
 ghost use Rattle.fb_bytes.specs.Keys.{is_backwards};
 ghost use Rattle.manifests.specs.Grammar.{name_for};
-ghost use Rattle.snapshot_plan.specs.Noted.{fault_of, gap, manifest_of, pieces_of};
+ghost use Rattle.snapshot_plan.specs.Noted.{fault_of, gap, manifest_of, most_bytes, pieces_of};
 ghost use Rattle.snapshot_plan.specs.Pieces.{ArePieces};
 ghost use Rattle.backup_core.specs.Hand as spec;
 
@@ -102,29 +102,40 @@ impl HandJob {
         self.map.check(piece)
     }
 
-    /// The job with a piece more, which was dumped at this version into the file. This one stays as it
-    /// is, for the case that the file is refused.
-    pub fn with_dump(&self, piece: &KeyRange, now: u64, file: Done) -> Result<HandJob, MapFault>
-        requires { is_backwards piece.now ≡ false }
-        ensures ok { OnOk result (fault_of self.now.map piece.now ≡ None) }
-        ensures err { IfErr result (λ fault. (fault ≡ MapFault.NoMemory) ⊎ (fault_of self.now.map piece.now ≡ Some fault)) }
-        ensures dumped { IfOk result (λ job. job ≡ spec.dumped self.now piece.now now file) }
+    /// A piece was dumped at this version into the file. Where it is refused, the job stays as it was.
+    pub fn dump(&mut self, piece: KeyRange, now: u64, file: Done) -> Result<(), MapFault>
+        requires { is_backwards piece ≡ false }
+        ensures ok { OnOk result (fault_of self.old.map piece ≡ None) }
+        ensures err { IfErr result (λ fault. (fault ≡ MapFault.NoMemory) ⊎ (fault_of self.old.map piece ≡ Some fault)) }
+        ensures dumped { OnOk result (self.new ≡ spec.dumped self.old piece now file) }
+        ensures refused { OnErr result (self.new ≡ self.old) }
     {
         let snapshot = self.snapshot_at(now);
-        let mut map = self.map.copy()?;
-        map.done(piece.copy()?, file)?;
-        Ok(HandJob {
-            map,
-            begin: self.begin,
-            next: self.next,
-            snapshot,
-            aborted: self.aborted,
-        })
+        self.map.done(piece, file)?;
+        self.snapshot = snapshot;
+        Ok(())
+    }
+
+    /// The number that the present snapshot had last.
+    pub fn snapshot(&self) -> u64
+        ensures { result ≡ self.now.snapshot }
+    {
+        self.snapshot
+    }
+
+    /// Takes back the dump of the piece that begins at the key, before which the snapshot had this
+    /// number. It takes no memory.
+    pub fn take_back(&mut self, begin: &[u8], snapshot: u64)
+        ensures { self.new ≡ spec.taken_back self.old begin.now snapshot }
+    {
+        self.map.take_back(begin);
+        self.snapshot = snapshot;
     }
 
     /// The manifest of the present snapshot, once its pieces tile the ranges.
     pub fn manifest(&self) -> Result<Manifest, MapFault>
         ensures ok { IfOk result (λ manifest. (gap self.now.map ≡ None) × (manifest ≡ manifest_of self.now.map.noted)) }
+        ensures fits { IfOk result (λ manifest. manifest.bytes ≤ most_bytes) }
         ensures err { IfErr result (λ fault. (fault ≡ MapFault.NoMemory) ⊎ (option_map (λ key. MapFault.Untiled key) (gap self.now.map) ≡ Some fault)) }
     {
         self.map.manifest()
@@ -150,19 +161,5 @@ impl HandJob {
         ensures { self.new ≡ spec.aborted_job self.old }
     {
         self.aborted = true;
-    }
-
-    /// An equal job with memory of its own.
-    pub fn copy(&self) -> Result<Self, AllocError>
-        ensures { IfOk result (λ job. job ≡ self.now) }
-    {
-        let map = self.map.copy()?;
-        Ok(HandJob {
-            map,
-            begin: self.begin,
-            next: self.next,
-            snapshot: self.snapshot,
-            aborted: self.aborted,
-        })
     }
 }

@@ -1,11 +1,16 @@
 //! What holds of all jobs. A call makes the law known to the proof of its caller, and does nothing
 //! when it runs.
 
-ghost use Rattle.backup_core.specs.Manifests.{NotingLaw, TilingLaw, HonestManifestLaw};
+ghost use Rattle.backup_core.specs.Manifests.{NotingLaw, UndoLaw, TilingLaw, HonestManifestLaw};
 
 /// Noted pieces stay in order, inside the ranges and under names of their own as one more is noted.
 pub fn noting_law()
     ensures { NotingLaw }
+{}
+
+/// A dump that is taken back leaves the job as it was.
+pub fn undo_law()
+    ensures { UndoLaw }
 {}
 
 /// Noted pieces inside the ranges that leave no gap tile them.

@@ -5,7 +5,7 @@ mod hand;
 mod laws;
 
 pub use hand::HandJob;
-pub use laws::{honest_manifest_law, noting_law, tiling_law};
+pub use laws::{honest_manifest_law, noting_law, tiling_law, undo_law};
 
 #[cfg(test)]
 mod tests;

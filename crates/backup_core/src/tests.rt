@@ -18,30 +18,31 @@ fn ranges(alloc: Global) -> Result<Ranges, RangeFault> {
     Ranges::build(alloc, &list)
 }
 
-/// The job with a piece more, if it may be dumped.
+/// Whether the piece may be dumped, and is.
 fn dump(
     alloc: Global,
-    job: &HandJob,
+    job: &mut HandJob,
     piece: (&[u8], &[u8]),
     file: (&str, u64),
-) -> Result<Option<HandJob>, AllocError> {
+) -> Result<bool, AllocError> {
     let piece = range(alloc, piece.0, piece.1)?;
     let name = Text::from_str(alloc, file.0)?;
     if piece.is_backwards() {
-        return Ok(None);
+        return Ok(false);
     }
     let done = Done {
         name,
         version: file.1,
         bytes: 40,
     };
-    Ok(job.with_dump(&piece, file.1, done).ok())
+    Ok(job.dump(piece, file.1, done).is_ok())
 }
 
 /// A job from version 10 on, with the keys from `a` to `m` dumped at version 20.
-fn begun(alloc: Global, ranges: &Ranges) -> Result<Option<HandJob>, AllocError> {
-    let job = HandJob::new(alloc, ranges, 10)?;
-    dump(alloc, &job, (b"a", b"m"), ("one", 20))
+fn begun(alloc: Global, ranges: &Ranges) -> Result<HandJob, AllocError> {
+    let mut job = HandJob::new(alloc, ranges, 10)?;
+    dump(alloc, &mut job, (b"a", b"m"), ("one", 20))?;
+    Ok(job)
 }
 
 #[test]
@@ -52,43 +53,34 @@ fn the_first_dump_numbers_the_snapshot(rt: HostRuntime) -> Result<(), Fail> {
         (fresh.begin(), fresh.next(), fresh.snapshot_at(20)),
         (10, 10, 20)
     );
-    let begun = begun(rt.alloc(), &ranges)?;
-    let Some(job) = begun else {
-        return Err(Fail::new("no job"));
-    };
+    let mut job = begun(rt.alloc(), &ranges)?;
     assert_eq!(rt;
         (job.begin(), job.next(), job.snapshot_at(25)),
         (10, 10, 20)
     );
+    job.take_back(b"a", 0);
+    assert!(rt; job.noted().is_empty());
+    assert_eq!(rt; job.snapshot_at(25), 25);
     Ok(())
 }
 
 #[test]
 fn a_piece_is_dumped_once(rt: HostRuntime) -> Result<(), Fail> {
     let ranges = ranges(rt.alloc())?;
-    let begun = begun(rt.alloc(), &ranges)?;
-    let Some(job) = begun else {
-        return Err(Fail::new("no job"));
-    };
+    let mut job = begun(rt.alloc(), &ranges)?;
     let piece = range(rt.alloc(), b"l", b"z")?;
     let answer = job.check(&piece);
     assert!(rt; matches!(&answer, Err(MapFault::Overlap { .. })));
-    let again = dump(rt.alloc(), &job, (b"l", b"z"), ("two", 25))?;
-    assert!(rt; again.is_none());
+    let again = dump(rt.alloc(), &mut job, (b"l", b"z"), ("two", 25))?;
+    assert!(rt; !again);
     Ok(())
 }
 
 #[test]
 fn a_cut_goes_past_its_version_and_a_seal_begins_anew(rt: HostRuntime) -> Result<(), Fail> {
     let ranges = ranges(rt.alloc())?;
-    let begun = begun(rt.alloc(), &ranges)?;
-    let Some(job) = begun else {
-        return Err(Fail::new("no job"));
-    };
-    let whole = dump(rt.alloc(), &job, (b"m", b"z"), ("two", 25))?;
-    let Some(mut job) = whole else {
-        return Err(Fail::new("no job"));
-    };
+    let mut job = begun(rt.alloc(), &ranges)?;
+    dump(rt.alloc(), &mut job, (b"m", b"z"), ("two", 25))?;
     let manifest = job.manifest()?;
     assert_eq!(rt;
         (manifest.begin, manifest.end, manifest.bytes),
@@ -101,7 +93,7 @@ fn a_cut_goes_past_its_version_and_a_seal_begins_anew(rt: HostRuntime) -> Result
         (10, 26, 30)
     );
     assert!(rt; job.noted().is_empty());
-    let next = dump(rt.alloc(), &job, (b"a", b"m"), ("three", 30))?;
-    assert!(rt; matches!(&next, Some(job) if job.snapshot_at(35) == 30));
+    dump(rt.alloc(), &mut job, (b"a", b"m"), ("three", 30))?;
+    assert_eq!(rt; job.snapshot_at(35), 30);
     Ok(())
 }

@@ -1,2 +1,5 @@
 pub mod Frames
 pub mod Strings
+pub mod Padding
+pub mod Steps
+pub mod Pieces

@@ -6,6 +6,7 @@ use Rattle.std.proofs.lemmas.List.{take_at, drop_at, take-append-drop, length-ap
 use Rattle.std.proofs.lemmas.Nat.{be_bytes_4, from_be_bytes-to_be_bytes_4, le_bytes_4, from_le_bytes-to_le_bytes_4}
 use Rattle.fb_bytes.specs.Bytes.{Bytes, IsBytes}
 use Rattle.fb_bytes.specs.Options.{◌>>=◌}
+use Rattle.fb_bytes.proofs.Options.{bind_some}
 use Rattle.block_frame.specs.Text.{header, string, split, header_at, string_at, is_over}
 
 pub IsBytes-drop : (n : ℕ) (bytes : Bytes) → IsBytes bytes → IsBytes (drop n bytes)
@@ -19,10 +20,6 @@ IsBytes-take n bytes h i =
     ]
 
 -- ---- steps that may have no result
-
-pub bind_some : {A B : Type 0} (o : Option A) (f : A → Option B) (y : B) → (o >>= f) ≡ Some y → (x : A) × (o ≡ Some x) × (f x ≡ Some y)
-bind_some (Some x) f y e = (x, refl, e)
-bind_some None f y e = absurd cc
 
 pub cut_some : {A : Type 0} (b : Bool) (x y : A) → cond b None (Some x) ≡ Some y → (b ≡ false) × (x ≡ y)
 cut_some true x y e = absurd cc

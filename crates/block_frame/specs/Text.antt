@@ -1,5 +1,5 @@
 -- The bytes that blocks are made of.
-use Rattle.std.specs.Prelude.{◌≡◌, ℕ, ◌*◌, Bool, true, [], ◌∷◌, ◌++◌, length, take, drop, Option, Some, None, nat_lt, ◌==◌, if◌then◌else◌}
+use Rattle.std.specs.Prelude.{◌≡◌, ℕ, ◌*◌, Bool, true, not, [], ◌∷◌, ◌++◌, length, take, drop, position, Option, Some, None, nat_lt, ◌==◌, if◌then◌else◌}
 use Rattle.std.specs.List.{AllByRecursion}
 use Rattle.std.specs.Int.{w32, to_le_bytes, to_be_bytes, from_le_bytes, from_be_bytes}
 use Rattle.fb_bytes.specs.Bytes.{Bytes}
@@ -34,6 +34,11 @@ abbrev pub is_over : Bytes → Bool
 is_over [] = true
 is_over (byte ∷ bytes) = byte == 255
 
+-- the place of the first byte that isn't padding
+abbrev pub unpadded_at : Bytes → Option ℕ
+unpadded_at bytes = position (λ byte. not (byte == 255)) bytes
+
 -- the block at an index, where the bytes go so far
 abbrev pub block_of : Bytes → ℕ → ℕ → Option Bytes
-block_of bytes block index = if nat_lt (index * block) (length bytes) then Some (take block (drop (index * block) bytes)) else None
+block_of bytes block index =
+    if nat_lt (index * block) (length bytes) then Some (take block (drop (index * block) bytes)) else None

@@ -48,3 +48,12 @@ fn strings(rt: HostRuntime) -> Result<(), Fail> {
     assert_eq!(rt; format, 1001);
     Ok(())
 }
+
+fn crosses<T: Send + Sync>() {}
+
+/// Threads may hand these on and share them.
+#[test]
+fn types_cross_threads() {
+    crosses::<Profile>();
+    crosses::<FrameWriter<256, 1001>>();
+}

@@ -127,7 +127,7 @@ impl Client {
             end: end_of_try(db, versions, &tx)?,
         };
         self.outcomes.push(outcome)?;
-        if make_entry(db, versions, &tx).is_err() {
+        if make_entry(db, versions, &tx, outcome.end).is_err() {
             let _ = self.outcomes.pop();
             return Err(AllocError);
         }
@@ -154,15 +154,16 @@ fn end_of_try(db: &Db, versions: &Versions, tx: &Tx) -> Result<End, AllocError>
 }
 
 // Makes the entry of a try, where it is to have one.
-fn make_entry(db: &mut Db, versions: &mut Versions, tx: &Tx) -> Result<(), AllocError>
+fn make_entry(db: &mut Db, versions: &mut Versions, tx: &Tx, end: End) -> Result<(), AllocError>
     requires pace { 1 ≤ versions.old.pace }
     requires past { AllByRecursion (λ (entry : Entry). entry.version ≤ versions.old.now) db.old.history }
-    ensures entry { OnOk result (db.new ≡ record db.old { history = history_after (version_of (end_of (commit_answer db.old.block versions.old.now versions.old.pace db.old.logs tx.now.ops.now))) tx.now.who (writes_of tx.now.ops.now) db.old.history }) }
-    ensures time { OnOk result (versions.new ≡ record versions.old { now = time_after (version_of (end_of (commit_answer db.old.block versions.old.now versions.old.pace db.old.logs tx.now.ops.now))) versions.old.now }) }
+    requires end { end ≡ end_of (commit_answer db.old.block versions.old.now versions.old.pace db.old.logs tx.now.ops.now) }
+    ensures entry { OnOk result (db.new ≡ record db.old { history = history_after (version_of end) tx.now.who (writes_of tx.now.ops.now) db.old.history }) }
+    ensures time { OnOk result (versions.new ≡ record versions.old { now = time_after (version_of end) versions.old.now }) }
     ensures err { OnErr result ((db.new ≡ db.old) × (versions.new ≡ versions.old)) }
 {
-    match db.commit(versions, tx) {
-        Err(CommitFault::NoMemory) => Err(AllocError),
-        Ok(_) | Err(_) => Ok(()),
+    match end {
+        End::Commit { version } => db.enter(versions, tx, version),
+        End::ReadOnly | End::Fault(_) => Ok(()),
     }
 }

@@ -80,7 +80,7 @@ impl Links {
     pub fn copy(&self) -> Result<Self, AllocError>
         ensures { IfOk result (λ links. links ≡ self.now) }
     {
-        let mut links = Vec::new(*self.links.allocator());
+        let mut links = Vec::with_capacity(*self.links.allocator(), self.links.len())?;
         for link in &self.links {
             let link = link.copy()?;
             links.push(link)?;

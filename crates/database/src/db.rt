@@ -1,4 +1,4 @@
-ghost use Rattle.std.specs.Prelude.{◌≡◌, ◌-◌, ◌^◌, ◌<◌, ◌≤◌, length, [], Some, None, Ok, Err, ◌⊎◌, IfOk, IfErr, OnErr};
+ghost use Rattle.std.specs.Prelude.{◌≡◌, ◌-◌, ◌^◌, ◌<◌, ◌≤◌, length, [], Some, None, Ok, Err, ◌⊎◌, IfOk, IfErr, OnOk, OnErr};
 ghost use Rattle.std.specs.List.{AllByRecursion};
 ghost use Rattle.std.specs.Option.{option_copied};
 ghost use Rattle.mutations.specs.declared.Entry.{Entry};
@@ -124,13 +124,32 @@ impl Db {
     {
         let done = self.check(versions, tx)?;
         if let Some(version) = done.version {
-            let muts = tx.ops.writes(self.alloc)?;
-            let who = tx.who;
-            let entry = Entry { version, who, muts };
-            put_entry(&mut self.history, &mut self.store, entry)?;
-            versions.now = version;
+            self.enter(versions, tx, version)?;
         }
         Ok(done)
+    }
+
+    /// Makes the entry of a transaction for which `check` has answered this version. Without memory
+    /// nothing changes.
+    pub fn enter(
+        &mut self,
+        versions: &mut Versions,
+        tx: &Tx,
+        version: u64,
+    ) -> Result<(), AllocError>
+        requires pace { 1 ≤ versions.old.pace }
+        requires past { AllByRecursion (λ (entry : Entry). entry.version ≤ versions.old.now) self.old.history }
+        requires checked { commit_answer self.old.block versions.old.now versions.old.pace self.old.logs tx.now.ops.now ≡ Ok (Some version) }
+        ensures entry { OnOk result (self.new ≡ record self.old { history = history_after (Some version) tx.now.who (writes_of tx.now.ops.now) self.old.history }) }
+        ensures time { OnOk result (versions.new ≡ record versions.old { now = version }) }
+        ensures refused { OnErr result ((self.new ≡ self.old) × (versions.new ≡ versions.old)) }
+    {
+        let muts = tx.ops.writes(self.alloc)?;
+        let who = tx.who;
+        let entry = Entry { version, who, muts };
+        put_entry(&mut self.history, &mut self.store, entry)?;
+        versions.now = version;
+        Ok(())
     }
 
     /// The pairs of a range at `now`.

@@ -2,10 +2,12 @@
 use Rattle.std.proofs.Common.{◌≡◌, ℕ, zero, suc, ◌+◌, ◌<◌, ◌≤◌, nat_eq, Bool, true, false, cond, [], ◌∷◌, ◌++◌, length, take, drop, Option, Some, None, Result, Ok, Err, ◌⊎◌, inl, inr, refl, sym, ap, ◌∙◌, arith, add-zero, append_assoc, append-nil, length-drop, if◌then◌else◌}
 use Rattle.std.proofs.lemmas.List.{take-append-drop, drop-drop, drop_all}
 use Rattle.std.proofs.lemmas.Bool.{cond_both, eqb-true}
+use Rattle.std.specs.List.{list_all}
+use Rattle.std.proofs.lemmas.Bool.{and_parts}
 use Rattle.fb_bytes.specs.Bytes.{Bytes, is_same}
 use Rattle.fb_bytes.specs.declared.word_fault.WordFault.{WordFault}
 use Rattle.fb_bytes.specs.declared.word_fault.WordFault.TheVariants.{Escape, Open}
-use Rattle.fb_bytes.specs.Words.{backslash, is_plain, byte_of, IsLetterOf, AreLettersOf, IsWordOf, empty_word, escape_at, letter_at, in_front, next_letter, letters, word_reading}
+use Rattle.fb_bytes.specs.Words.{backslash, is_plain, byte_of, IsLetterOf, AreLettersOf, IsWordOf, empty_word, escape_at, letter_at, in_front, next_letter, letters, letter_of, letters_of, printed, word_reading}
 use Rattle.fb_bytes.specs.Options.{◌>>=◌}
 use Rattle.fb_bytes.proofs.Order.{same_eq, same_itself}
 
@@ -220,3 +222,24 @@ open_is_empty (first ∷ word) e = go (chosen (is_same (first ∷ word) empty_wo
     go : Went (is_same (first ∷ word) empty_word) (Ok []) (letters 0 0 (first ∷ word)) (Err Open) → (first ∷ word) ≡ []
     go (inl t) = let k = t.1 in cc
     go (inr f) = absurd (letters_not_open 0 0 (first ∷ word) f.1)
+
+-- a word of plain letters spells itself
+plain_letters : (at : ℕ) (word : Bytes) → list_all is_plain word ≡ true → letters 0 at word ≡ Ok word
+plain_letters at [] h = refl
+plain_letters at (first ∷ word) h =
+    let p = and_parts (is_plain first) (list_all is_plain word) h in
+    rw p.0 (ap (in_front first) (plain_letters (at + 1) word p.1))
+
+pub read_plain : (word : Bytes) → is_same word empty_word ≡ false → list_all is_plain word ≡ true → (word ≡ [] → ⊥) → word_reading word ≡ Ok word
+read_plain [] s h n = absurd (n refl)
+read_plain (first ∷ word) s h n = rw s (plain_letters 0 (first ∷ word) h)
+
+plain_printed : (bytes : Bytes) → list_all is_plain bytes ≡ true → letters_of bytes ≡ bytes
+plain_printed [] h = refl
+plain_printed (byte ∷ bytes) h =
+    let p = and_parts (is_plain byte) (list_all is_plain bytes) h in
+    rw p.0 (ap (λ xs. byte ∷ xs) (plain_printed bytes p.1))
+
+pub printed_plain : (bytes : Bytes) → (bytes ≡ [] → ⊥) → list_all is_plain bytes ≡ true → printed bytes ≡ bytes
+printed_plain [] n h = absurd (n refl)
+printed_plain (byte ∷ bytes) n h = plain_printed (byte ∷ bytes) h

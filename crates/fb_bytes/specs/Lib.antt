@@ -1,4 +1,5 @@
 pub mod Bytes
+pub mod Held
 pub mod Options
 pub mod Results
 pub mod Keys

@@ -6,20 +6,28 @@ ghost use Rattle.std.specs.Cmp.{partial_order_from_own_ties};
 ghost use Rattle.std.specs.Cmp.Rules.{comparing};
 ghost use Rattle.std.proofs.Common.{rules};
 
+use crate::held::Held;
 use std::alloc::{AllocError, Global};
 use std::cmp::Ordering;
 use std::marker::Model;
 
-/// A string of bytes on the heap: a key, a value, or what a file holds.
+/// A string of bytes: a key, a value, or what a file holds. A short one takes no memory of its own on
+/// the heap, and the copies of a long one share their memory.
 #[derive(Debug, Drop)]
 pub struct Blob {
-    bytes: Vec<u8>,
+    alloc: Global,
+    held: Held,
 }
 
 impl Model for Blob {
+    ghost use Rattle.std.specs.Prelude.{List, ℕ};
+    ghost use Rattle.fb_bytes.specs.Held.{held_bytes, IsHeld};
+
     ghost Value = { List ℕ };
 
-    ghost view = { λ b. b.bytes.items };
+    ghost view = { λ b. held_bytes b.held };
+
+    ghost invariant = { λ b. IsHeld b.held };
 }
 
 impl Blob {
@@ -28,74 +36,79 @@ impl Blob {
         ensures { result ≡ [] }
     {
         Blob {
-            bytes: Vec::new(alloc),
+            alloc,
+            held: Held::Own(Vec::new(alloc)),
         }
     }
 
+    /// A copy of the bytes.
     pub fn from_slice(alloc: Global, bytes: &[u8]) -> Result<Self, AllocError>
         ensures { IfOk result (λ blob. blob ≡ bytes.now) }
     {
-        let bytes = Vec::from_slice(alloc, bytes)?;
-        Ok(Blob { bytes })
+        let held = Held::shared(alloc, bytes)?;
+        Ok(Blob { alloc, held })
     }
 
     /// The same bytes, with no copy.
     pub fn from_vec(bytes: Vec<u8>) -> Self
         ensures { result ≡ bytes.items }
     {
-        Blob { bytes }
-    }
-
-    /// The same bytes, with no copy.
-    pub fn into_vec(self) -> Vec<u8>
-        ensures { result.items ≡ self }
-    {
-        let Blob { bytes } = self;
-        bytes
+        Blob {
+            alloc: *bytes.allocator(),
+            held: Held::Own(bytes),
+        }
     }
 
     pub fn as_slice(&self) -> &[u8]
         ensures same { result.now ≡ self.now }
         ensures bytes { IsBytes self.now }
     {
-        let bytes = self.bytes.as_slice();
+        let bytes = self.held.as_slice();
         bytes
     }
 
     pub fn len(&self) -> usize
         ensures { result ≡ length self.now }
     {
-        self.bytes.len()
+        self.as_slice().len()
     }
 
     pub fn is_empty(&self) -> bool
         ensures { IsTrue result ↔ (self.now ≡ []) }
     {
-        self.bytes.is_empty()
+        self.as_slice().is_empty()
     }
 
+    /// Adds a byte at the end.
     pub fn push(&mut self, byte: u8) -> Result<(), AllocError>
         ensures ok { OnOk result (self.new ≡ self.old ++ byte ∷ []) }
         ensures err { OnErr result (self.new ≡ self.old) }
     {
-        self.bytes.push(byte)?;
-        Ok(())
+        self.extend_from_slice(&[byte])
     }
 
+    /// Adds bytes at the end.
     pub fn extend_from_slice(&mut self, more: &[u8]) -> Result<(), AllocError>
         ensures ok { OnOk result (self.new ≡ self.old ++ more.now) }
         ensures err { OnErr result (self.new ≡ self.old) }
     {
-        self.bytes.extend_from_slice(more)?;
+        if let Held::Own(bytes) = &mut self.held {
+            bytes.extend_from_slice(more)?;
+            return Ok(());
+        }
+        self.held = Held::joined(self.alloc, self.held.as_slice(), more)?;
         Ok(())
     }
 
-    /// An equal string with memory of its own.
+    /// An equal string. The copies of a long one share their memory.
     pub fn copy(&self) -> Result<Self, AllocError>
         ensures { IfOk result (λ blob. blob ≡ self.now) }
     {
-        let bytes = self.bytes.clone()?;
-        Ok(Blob { bytes })
+        let held = self.held.copy(self.alloc)?;
+        Ok(Blob {
+            alloc: self.alloc,
+            held,
+        })
     }
 }
 
@@ -105,7 +118,7 @@ impl PartialEq for Blob {
     ghost laws = { Prim.search (comparing, rules) };
 
     fn eq(&self, other: &Blob) -> bool {
-        self.bytes == other.bytes
+        self.as_slice() == other.as_slice()
     }
 }
 
@@ -134,6 +147,6 @@ impl Ord for Blob {
     ghost matches_eq = { Prim.search (comparing, rules) };
 
     fn cmp(&self, other: &Blob) -> Ordering {
-        self.bytes.cmp(&other.bytes)
+        self.as_slice().cmp(&other.as_slice())
     }
 }

@@ -3,6 +3,7 @@
 
 mod blob;
 mod compare;
+mod held;
 mod joining;
 mod key_range;
 mod names;
@@ -21,9 +22,9 @@ pub use names::Names;
 pub use pairs::{Pair, Pairs};
 pub use range_fault::RangeFault;
 pub use ranges::{Ranges, one_list};
-pub use seq::{Seq, TryCopy};
+pub use seq::{Seq, SharedSeq, TryCopy};
 pub use text::Text;
-pub use word::{one_reading, print_bytes, read_bytes};
+pub use word::{one_reading, print_bytes, put_printed, read_bytes};
 pub use word_fault::WordFault;
 
 #[cfg(test)]

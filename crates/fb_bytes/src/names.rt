@@ -72,7 +72,7 @@ impl Names {
     pub fn copy(&self) -> Result<Self, AllocError>
         ensures { IfOk result (λ names. names ≡ self.now) }
     {
-        let mut names = Vec::new(*self.names.allocator());
+        let mut names = Vec::with_capacity(*self.names.allocator(), self.names.len())?;
         for name in &self.names {
             let name = name.copy()?;
             names.push(name)?;

@@ -103,7 +103,7 @@ impl Pairs {
     pub fn copy(&self) -> Result<Self, AllocError>
         ensures { IfOk result (λ pairs. pairs ≡ self.now) }
     {
-        let mut pairs = Vec::new(*self.pairs.allocator());
+        let mut pairs = Vec::with_capacity(*self.pairs.allocator(), self.pairs.len())?;
         for pair in &self.pairs {
             let pair = pair.copy()?;
             pairs.push(pair)?;

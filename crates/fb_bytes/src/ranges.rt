@@ -102,7 +102,7 @@ impl Ranges {
     pub fn copy(&self) -> Result<Self, AllocError>
         ensures { IfOk result (λ ranges. ranges ≡ self.now) }
     {
-        let mut ranges = Vec::new(*self.ranges.allocator());
+        let mut ranges = Vec::with_capacity(*self.ranges.allocator(), self.ranges.len())?;
         for range in &self.ranges {
             let range = range.copy()?;
             ranges.push(range)?;

@@ -3,6 +3,7 @@ ghost use Rattle.std.specs.Prelude.{◌≡◌, ◌<◌, ◌↔◌, List, [], ◌
 use crate::{Blob, KeyRange, Pair, Text};
 use std::alloc::{AllocError, Global};
 use std::marker::Model;
+use std::sync::Arc;
 
 /// What can be kept twice.
 pub trait TryCopy: Sized {
@@ -94,9 +95,62 @@ impl<T: Drop> Seq<T> {
     }
 }
 
+/// A list on the heap that doesn't change, and that its copies share. Contracts see its items.
+#[derive(Debug, Drop)]
+pub struct SharedSeq<T> {
+    items: Arc<Vec<T>>,
+}
+
+impl<T> Model for SharedSeq<T> {
+    ghost use Rattle.std.specs.Prelude.{List};
+    ghost use Rattle.std.specs.Arc.{arc_value};
+
+    ghost Value = { List T };
+
+    ghost view = { λ s. (arc_value s.items).items };
+}
+
+impl<T: Drop> SharedSeq<T> {
+    /// The same items, with no copy of them. Without memory they are let go.
+    pub fn from_vec(items: Vec<T>) -> Result<Self, AllocError>
+        ensures { IfOk result (λ list. list ≡ items.items) }
+    {
+        let alloc = *items.allocator();
+        let items = Arc::new(alloc, items)?;
+        Ok(SharedSeq { items })
+    }
+}
+
+impl<T> SharedSeq<T> {
+    pub fn as_slice(&self) -> &[T]
+        ensures { result.now ≡ self.now }
+    {
+        self.items.as_slice()
+    }
+
+    pub fn len(&self) -> usize
+        ensures { result ≡ length self.now }
+    {
+        self.items.len()
+    }
+
+    pub fn is_empty(&self) -> bool
+        ensures { IsTrue result ↔ (self.now ≡ []) }
+    {
+        self.items.is_empty()
+    }
+}
+
+impl<T: Drop> TryCopy for SharedSeq<T> {
+    fn copy(&self) -> Result<Self, AllocError> {
+        let items = Arc::try_clone(&self.items)?;
+        Ok(SharedSeq { items })
+    }
+}
+
 impl<T: TryCopy + Drop> TryCopy for Seq<T> {
     fn copy(&self) -> Result<Self, AllocError> {
-        let mut items = Vec::new(*self.items.allocator());
+        let mut items = Vec::with_capacity(*self.items.allocator(), self.items.len())?;
         for item in &self.items {
             let item = item.copy()?;
             items.push(item)?;

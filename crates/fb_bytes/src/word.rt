@@ -1,6 +1,7 @@
 //! The text form of bytes, as workloads and reports write keys and values.
 
 ghost use Rattle.std.specs.Prelude.{◌≡◌, ◌+◌, ◌<◌, ◌++◌, ◌↔◌, [], ◌⊎◌, length, string_bytes, IfOk, IfErr, IfSome, OnOk, IsErrOf, MatchResult};
+ghost use Rattle.std.specs.List.{list_all};
 ghost use Rattle.fb_bytes.specs.Bytes.{Bytes};
 ghost use Rattle.fb_bytes.specs.Words as words;
 ghost use Rattle.fb_bytes.specs.declared.word_fault.WordFault.TheVariants as faults;
@@ -24,6 +25,18 @@ pub fn print_bytes(alloc: Global, bytes: &[u8]) -> Result<Text, AllocError>
     Ok(Text::from_string(word))
 }
 
+/// Puts the word that `print_bytes` gives for the bytes behind what stands.
+pub fn put_printed(alloc: Global, out: &mut Blob, bytes: &[u8]) -> Result<(), AllocError>
+    ensures { OnOk result (out.new ≡ out.old ++ words.printed bytes.now) }
+{
+    if !bytes.is_empty() && are_plain(bytes) {
+        out.extend_from_slice(bytes)?;
+        return Ok(());
+    }
+    let word = print_bytes(alloc, bytes)?;
+    out.extend_from_slice(word.as_bytes())
+}
+
 fn push_letter(alloc: Global, word: &mut String, byte: u8) -> Result<(), AllocError>
     ensures { OnOk result (string_bytes word.new ≡ string_bytes word.old ++ words.letter_of byte) }
 {
@@ -35,6 +48,13 @@ fn push_letter(alloc: Global, word: &mut String, byte: u8) -> Result<(), AllocEr
     word.push_str("\\x")?;
     word.push_str(digits.as_str())?;
     Ok(())
+}
+
+// Each byte stands for itself.
+fn are_plain(word: &[u8]) -> bool
+    ensures { result ≡ list_all words.is_plain word.now }
+{
+    word.iter().all(|byte| is_plain(*byte))
 }
 
 fn is_plain(byte: u8) -> bool
@@ -68,6 +88,9 @@ fn read_letters(alloc: Global, word: &[u8]) -> Result<Blob, WordFault>
     if is_same(word, b"\\e") {
         return Ok(Blob::new(alloc));
     }
+    if are_plain(word) {
+        return Ok(Blob::from_slice(alloc, word)?);
+    }
     let mut bytes = Vec::new(alloc);
     let mut at = 0;
     'letters: while at < word.len() {
@@ -77,7 +100,7 @@ fn read_letters(alloc: Global, word: &[u8]) -> Result<Blob, WordFault>
         bytes.push(byte)?;
         at += 1 + more;
     }
-    Ok(Blob::from_vec(bytes))
+    Ok(Blob::from_slice(alloc, &bytes)?)
 }
 
 // The byte that the first letter spells, and how many bytes the letter takes behind its first.

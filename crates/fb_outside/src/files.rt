@@ -133,7 +133,7 @@ impl Files {
         ensures same { IfOk result (λ files. files ≡ self.now) }
         ensures files { IfOk result (λ files. AreFiles files) }
     {
-        let mut files = Vec::new(*self.files.allocator());
+        let mut files = Vec::with_capacity(*self.files.allocator(), self.files.len())?;
         for file in &self.files {
             let file = file.copy()?;
             files.push(file)?;

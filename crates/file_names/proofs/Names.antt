@@ -7,12 +7,14 @@ use Rattle.std.proofs.lemmas.List.{nil_from_length}
 use Rattle.fb_bytes.specs.Bytes.{Bytes, is_same}
 use Rattle.fb_bytes.specs.Blocks.{is_block}
 use Rattle.fb_bytes.specs.Options.{◌>>=◌}
+use Rattle.fb_bytes.proofs.Options.{bind_some}
+use Rattle.fb_bytes.proofs.Order.{same_eq}
 use Rattle.file_names.specs.declared.name.Name.{Name}
 use Rattle.file_names.specs.declared.name.Name.TheVariants.{Range, Log, Manifest, Unreliable, Expired, Other}
 use Rattle.file_names.specs.Spelling.{is_number, are_numbers, spelled, range_texts, log_texts, manifest_texts, unreliable_text, expired_text, range_numbers, log_numbers, manifest_numbers, spelling, is_other, OneName}
 use Rattle.file_names.specs.Reading.{after, number_after, numbers_in, range_from, log_from, manifest_from, range_of, log_of, manifest_of, property_of, first_of, or_other, name_of}
 use Rattle.file_names.specs.Laws.{SpelledName}
-use Rattle.file_names.proofs.Numbers.{bind_some, cond_some, same_is, StartsOther, number_after_found, number_after_again}
+use Rattle.file_names.proofs.Numbers.{cond_some, StartsOther, number_after_found, number_after_again}
 
 -- ---- numbers behind texts
 
@@ -147,8 +149,8 @@ manifest_again begin end bytes ticket small le =
 -- ---- properties
 
 property_go : (text : Bytes) (name : Name) (a b : Bool) → is_same text unreliable_text ≡ a → is_same text expired_text ≡ b → cond a (Some Unreliable) (cond b (Some Expired) None) ≡ Some name → spelling name ≡ Some text
-property_go text name true b p q e = let is : Unreliable ≡ name = cc in ap spelling (sym is) ∙ ap (λ (x : Bytes). Some x) (sym (same_is text unreliable_text p))
-property_go text name false true p q e = let is : Expired ≡ name = cc in ap spelling (sym is) ∙ ap (λ (x : Bytes). Some x) (sym (same_is text expired_text q))
+property_go text name true b p q e = let is : Unreliable ≡ name = cc in ap spelling (sym is) ∙ ap (λ (x : Bytes). Some x) (sym (same_eq text unreliable_text p))
+property_go text name false true p q e = let is : Expired ≡ name = cc in ap spelling (sym is) ∙ ap (λ (x : Bytes). Some x) (sym (same_eq text expired_text q))
 property_go text name false false p q e = absurd cc
 
 pub property_found : (text : Bytes) (name : Name) → property_of text ≡ Some name → spelling name ≡ Some text

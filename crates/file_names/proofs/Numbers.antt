@@ -5,7 +5,6 @@ use Rattle.std.specs.List.{prefix_len}
 use Rattle.std.specs.Char.{is_ascii_digit}
 use Rattle.std.specs.Int.{IsInRange}
 use Rattle.std.specs.Str.{all_ascii_digits}
-use Rattle.std.specs.Cmp.Lexicographic.{same_text, other_text}
 use Rattle.std.proofs.lemmas.Str.Parse.{IsNumeralModel, numerals_by_fold, tells_all_ascii_digits, digit_at}
 use Rattle.std.proofs.lemmas.Fmt.{decimal-digits_value, digits_decimal, digits_value-decimal, decimal_digit, first_decimal, decimal_nonempty}
 use Rattle.std.proofs.lemmas.Bool.{cases_Bool, cases_lt, and_parts, and_from, or_cases, or_left, or_right, not-true, not_from_false, eqb-true, eqb-false, eq-eqb, ltb-true, lt-ltb, cond-true, cond-false, le-ltb}
@@ -13,6 +12,8 @@ use Rattle.std.proofs.lemmas.List.{drop_more, take_at, drop_at, take-append-drop
 use Rattle.std.proofs.lemmas.List.Sums.{take_while-cons}
 use Rattle.fb_bytes.specs.Bytes.{Bytes, is_same}
 use Rattle.fb_bytes.specs.Options.{◌>>=◌}
+use Rattle.fb_bytes.proofs.Options.{bind_some}
+use Rattle.fb_bytes.proofs.Order.{same_eq, same_itself}
 use Rattle.file_names.specs.Spelling.{is_number}
 use Rattle.file_names.specs.Reading.{after, value_after, is_plain, digits_of, behind_digits, number_of, number_at, number_after}
 
@@ -21,33 +22,21 @@ own = numerals_by_fold _ tells_all_ascii_digits value_after (search rules)
 
 -- ---- steps that may have no result
 
-pub bind_some : {A B : Type 0} (o : Option A) (f : A → Option B) (y : B) → (o >>= f) ≡ Some y → (x : A) × (o ≡ Some x) × (f x ≡ Some y)
-bind_some (Some x) f y e = (x, refl, e)
-bind_some None f y e = absurd cc
-
 pub cond_some : {A : Type 0} (b : Bool) (x y : A) → cond b (Some x) None ≡ Some y → (b ≡ true) × (x ≡ y)
 cond_some true x y e = (refl, cc)
 cond_some false x y e = absurd cc
 
--- ---- equal texts
-
-pub same_is : (x y : Bytes) → is_same x y ≡ true → x ≡ y
-unfolding is_same
-same_is x y e = same_text x y (sym e)
-
-pub same_self : (x : Bytes) → is_same x x ≡ true
-unfolding is_same
-same_self x = elim (cases_Bool (is_same x x)) [ inl same ↦ same | inr other ↦ absurd (other_text x x (sym other) refl) ]
+-- ---- behind a text
 
 pub after_found : (text bytes rest : Bytes) → after text bytes ≡ Some rest → bytes ≡ text ++ rest
 unfolding after
 after_found text bytes rest e =
     let g = cond_some (is_same (take (length text) bytes) text) (drop (length text) bytes) rest e in
-    sym (take-append-drop (length text) bytes) ∙ ap (λ (x : Bytes). x ++ drop (length text) bytes) (same_is _ _ g.0) ∙ ap (λ (x : Bytes). text ++ x) g.1
+    sym (take-append-drop (length text) bytes) ∙ ap (λ (x : Bytes). x ++ drop (length text) bytes) (same_eq _ _ g.0) ∙ ap (λ (x : Bytes). text ++ x) g.1
 
 pub after_again : (text rest : Bytes) → after text (text ++ rest) ≡ Some rest
 unfolding after
-after_again text rest = rw (take_at text rest (length text) refl, drop_at text rest (length text) refl, same_self text) refl
+after_again text rest = rw (take_at text rest (length text) refl, drop_at text rest (length text) refl, same_itself text) refl
 
 -- ---- the digits in front
 

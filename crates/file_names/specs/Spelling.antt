@@ -6,8 +6,11 @@ pub use Rattle.file_names.specs.declared.name.Name.{Name}
 use Rattle.file_names.specs.declared.name.Name.TheVariants.{Range, Log, Manifest, Unreliable, Expired, Other}
 
 -- numbers in names are below this
+abbrev pub number_end : ℕ
+number_end = 2 ^ 63
+
 abbrev pub is_number : ℕ → Bool
-is_number n = nat_lt n (2 ^ 63)
+is_number n = nat_lt n number_end
 
 abbrev pub are_numbers : List ℕ → Bool
 are_numbers [] = true

@@ -69,3 +69,11 @@ fn printed(rt: HostRuntime) -> Result<(), Fail> {
     assert_eq!(rt; text.as_str(), "properties/unreliable_end");
     Ok(())
 }
+
+fn crosses<T: Send + Sync>() {}
+
+/// Threads may hand these on and share them.
+#[test]
+fn types_cross_threads() {
+    crosses::<Name>();
+}

@@ -11,7 +11,7 @@ use Rattle.mutations.specs.declared.mutation.Mutation.TheVariants.{Set, ClearRan
 use Rattle.mutations.specs.Effects.{range_of, effect, effects, common}
 use Rattle.mutations.specs.Clipping.{cleared, clipped, all_clipped}
 use Rattle.mutations.specs.Laws.{UntouchedLaw, TouchLaw, ClipLaw}
-use Rattle.mutations.proofs.Basics.{not_both}
+use Rattle.mutations.proofs.Basics.{not_both, and_true}
 use Rattle.fb_bytes.proofs.Order.{same_eq, same_itself}
 use Rattle.mutations.proofs.Intersections.{holds_common, holds_backwards, holds_begin}
 
@@ -77,10 +77,6 @@ module _ (limit : ℕ) (key : Bytes) where
       ∙ clears_at range rs _
       ∙ ap (cond (holds range key && in_ranges rs key) None) (cleared_at (common range r) old ∙ ap (λ t. cond t None old) (holds_common range r key))
       ∙ two_clears (holds range key) (holds r key) (in_ranges rs key) old
-
-  and_true : (b : Bool) → (b && true) ≡ b
-  and_true true = refl
-  and_true false = refl
 
   -- two keys of which one lies in the ranges and the other doesn't aren't the same
   other_key : (ranges : List KeyRange) (k : Bytes) (b : Bool) (x : Option Bytes) (old : Option Bytes) → in_ranges ranges key ≡ b → in_ranges ranges k ≡ not b → cond (is_same k key) x old ≡ old

@@ -4,7 +4,7 @@ use Rattle.std.proofs.lemmas.Bool.{cases_lt, ltb-false, le-ltb}
 use Rattle.std.proofs.lemmas.List.{take_at, drop_at, take-append-drop, length-append, length-take, get_or-drop, get_or-take, get_or_past}
 use Rattle.std.proofs.lemmas.Nat.{le_bytes_4, le_bytes_8, from_le_bytes-to_le_bytes_4, from_le_bytes-to_le_bytes_8}
 use Rattle.fb_bytes.specs.Bytes.{Bytes, IsBytes}
-use Rattle.fb_bytes.specs.Options.{◌>>=◌}
+use Rattle.fb_bytes.proofs.Options.{bind_some}
 use Rattle.mutations.specs.Spelling.{u32_bytes, u64_bytes, parts_spelling}
 use Rattle.mutations.specs.Parts.{u32_of, u64_of, split, number_at, Parts, parts_of}
 use Rattle.mutations.proofs.Lengths.{length-u32_bytes}
@@ -18,11 +18,6 @@ IsBytes-take n bytes h i =
       | inl lt ↦ rw (get_or-take n bytes i 0 lt) (h i)
       | inr le ↦ rw (get_or_past (take n bytes) i 0 (omega (arith, length-take n bytes))) (omega arith)
     ]
-
--- the value of a step that has one
-pub bind_some : {A B : Type 0} (o : Option A) (f : A → Option B) (y : B) → (o >>= f) ≡ Some y → (x : A) × (o ≡ Some x) × (f x ≡ Some y)
-bind_some None f y e = cc
-bind_some (Some x) f y e = (x, refl, e)
 
 abbrev some : {A : Type 0} → A → Option A
 some x = Some x

@@ -1,13 +1,13 @@
 -- The intersection of two ranges.
-use Rattle.std.proofs.Common.{◌≡◌, Bool, true, false, not, ◌&&◌, refl, ap, ◌∙◌, Ordering, Less, Equal, Greater, is_lt, nat_cmp}
+use Rattle.std.proofs.Common.{◌≡◌, Bool, true, false, not, ◌&&◌, refl, ap, ◌∙◌}
 use Rattle.fb_bytes.specs.declared.KeyRange.{KeyRange}
-use Rattle.fb_bytes.specs.Bytes.{Bytes, is_below, is_same}
+use Rattle.fb_bytes.specs.Bytes.{Bytes, is_below}
 use Rattle.fb_bytes.specs.Keys.{holds, is_backwards}
 use Rattle.mutations.specs.Effects.{later, earlier, common}
 use Rattle.fb_bytes.proofs.Order.{below_trans, below_up, below_itself}
 use Rattle.mutations.proofs.Basics.{by_test, not_both, and_swap, not_true}
 
-later_below : (a b k : Bytes) → not (is_below k (later a b)) ≡ (not (is_below k a) && not (is_below k b))
+pub later_below : (a b k : Bytes) → not (is_below k (later a b)) ≡ (not (is_below k a) && not (is_below k b))
 later_below a b k = by_test (is_below a b) (λ z. not (is_below k z) ≡ (not (is_below k a) && not (is_below k b))) b a (λ h. is_b h (is_below k b) (is_below k a) refl refl) (λ h. is_a h (is_below k b) (is_below k a) refl refl)
   where
     is_b : is_below a b ≡ true → (s t : Bool) → is_below k b ≡ s → is_below k a ≡ t → not s ≡ (not t && not s)
@@ -20,7 +20,7 @@ later_below a b k = by_test (is_below a b) (λ z. not (is_below k z) ≡ (not (i
     is_a h false false p q = refl
     is_a h true false p q = not_both (below_up k a b p h) q
 
-below_earlier : (a b k : Bytes) → is_below k (earlier a b) ≡ (is_below k a && is_below k b)
+pub below_earlier : (a b k : Bytes) → is_below k (earlier a b) ≡ (is_below k a && is_below k b)
 below_earlier a b k = by_test (is_below b a) (λ z. is_below k z ≡ (is_below k a && is_below k b)) b a (λ h. is_b h (is_below k b) (is_below k a) refl refl) (λ h. is_a h (is_below k b) (is_below k a) refl refl)
   where
     is_b : is_below b a ≡ true → (s t : Bool) → is_below k b ≡ s → is_below k a ≡ t → s ≡ (t && s)

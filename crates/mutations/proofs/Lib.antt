@@ -1,5 +1,6 @@
 pub mod Basics
 pub mod Intersections
+pub mod Meets
 pub mod Lengths
 pub mod Loop
 pub mod Fields

@@ -14,16 +14,12 @@ use Rattle.mutations.specs.declared.wire_fault.WireFault.{WireFault}
 use Rattle.mutations.specs.declared.wire_fault.WireFault.TheVariants.{Short, Protocol, Length, Code, Backwards}
 use Rattle.mutations.specs.Spelling.{u32_bytes, u64_bytes, mutation_code, first_string, second_string, parts_spelling, mutation_spelling, mutations_spelling, protocol, framed, batch_spelling, IsForward, HasSpelling}
 use Rattle.mutations.specs.Parts.{u32_of, u64_of, parts_of}
-use Rattle.mutations.specs.Reading.{◌>>=◌, there_or, atomic_at, mutation_of, mutation_at, mutations_at, header_fault, unless_fault, decoded, Gives}
+use Rattle.mutations.specs.Reading.{◌>>=◌, found_or, atomic_at, mutation_of, mutation_at, mutations_at, header_fault, unless_fault, decoded, Gives}
 use Rattle.mutations.specs.Laws.{OneSpellingLaw, FirstFaultLaw}
+use Rattle.fb_bytes.proofs.Results.{bind_ok}
 use Rattle.mutations.proofs.Lengths.{length-u32_bytes, length-u64_bytes, length-mutation}
 use Rattle.mutations.proofs.Loop.{first_of_rest}
 use Rattle.mutations.proofs.Fields.{Takes, parts_take, parts_again, u32_back, u64_back, u32_again, u64_again, u32_below, IsBytes-take, IsBytes-drop}
-
--- the value of a step that has no fault
-bind_ok : {A B : Type 0} (r : Result A WireFault) (f : A → Result B WireFault) (y : B) → (r >>= f) ≡ Ok y → (x : A) × (r ≡ Ok x) × (f x ≡ Ok y)
-bind_ok (Ok x) f y e = (x, refl, e)
-bind_ok (Err d) f y e = absurd cc
 
 abbrev done : {A : Type 0} → A → Result A WireFault
 done x = Ok x
@@ -31,7 +27,7 @@ done x = Ok x
 ok_is : {A : Type 0} (x y : A) → done x ≡ done y → x ≡ y
 ok_is x y e = cc
 
-there : {A : Type 0} (fault : WireFault) (o : Option A) (x : A) → there_or fault o ≡ Ok x → o ≡ Some x
+there : {A : Type 0} (fault : WireFault) (o : Option A) (x : A) → found_or fault o ≡ Ok x → o ≡ Some x
 there fault None x e = absurd cc
 there fault (Some y) x e = ap (λ z. Some z) (ok_is y x e)
 
@@ -96,7 +92,7 @@ mutation_of_takes at (suc zero) first second m e =
     let g = guard_ok (is_below first second) (Backwards at) (ClearRange first second) m e in
     subst (IsRead 1 first second) g.1 (record { code_is = refl; first_is = refl; second_is = refl; forward = g.0 })
 mutation_of_takes at (suc (suc n)) first second m e =
-    let a = bind_ok (there_or (Code at (suc (suc n))) (op_of_code (suc (suc n)))) (λ op. Ok (Atomic op first second)) m e in
+    let a = bind_ok (found_or (Code at (suc (suc n))) (op_of_code (suc (suc n)))) (λ op. Ok (Atomic op first second)) m e in
     let known = there (Code at (suc (suc n))) (op_of_code (suc (suc n))) a.0 a.1 in
     subst (IsRead (suc (suc n)) first second) (ok_is (Atomic a.0 first second) m a.2) (record { code_is = op_is (suc (suc n)) a.0 known; first_is = refl; second_is = refl; forward = tt })
 
@@ -118,7 +114,7 @@ spelled_as m code first second r = λ i. parts_spelling (sym r.code_is i) (sym r
 mutation_takes : (at : ℕ) (bytes : Bytes) (x : Mutation × Bytes) → IsBytes bytes → mutation_at at bytes ≡ Ok x → Takes bytes (mutation_spelling x.0) x.1 × IsForward x.0
 unfolding mutation_at
 mutation_takes at bytes x fits e =
-    let a = bind_ok (there_or (Short at) (parts_of bytes)) (λ parts. mutation_of at parts.code parts.first parts.second >>= λ mutation. Ok (mutation, parts.rest)) x e in
+    let a = bind_ok (found_or (Short at) (parts_of bytes)) (λ parts. mutation_of at parts.code parts.first parts.second >>= λ mutation. Ok (mutation, parts.rest)) x e in
     let b = bind_ok (mutation_of at a.0.code a.0.first a.0.second) (λ mutation. Ok (mutation, a.0.rest)) x a.2 in
     let t = parts_take bytes a.0 fits (there (Short at) (parts_of bytes) a.0 a.1) in
     let r = mutation_of_takes at a.0.code a.0.first a.0.second b.0 b.1 in

@@ -1,6 +1,8 @@
 -- Reading a batch: the list that the bytes spell, or the first fault.
-use Rattle.std.specs.Prelude.{◌≡◌, ◌⊎◌, ℕ, zero, suc, ◌-◌, List, [], ◌∷◌, length, take, drop, Option, Some, None, Result, Ok, Err, nat_lt, ◌==◌, if◌then◌else◌}
+use Rattle.std.specs.Prelude.{ℕ, zero, suc, ◌-◌, List, [], ◌∷◌, length, take, drop, Option, Some, None, Result, Ok, Err, nat_lt, ◌==◌, if◌then◌else◌}
 use Rattle.fb_bytes.specs.Bytes.{Bytes, is_below}
+pub use Rattle.fb_bytes.specs.Results.{◌>>=◌, found_or}
+use Rattle.fb_bytes.specs.Results.{GivesBut}
 use Rattle.atomic_ops.specs.Codes.{op_of_code}
 use Rattle.mutations.specs.declared.wire_fault.WireFault.{WireFault}
 use Rattle.mutations.specs.declared.wire_fault.WireFault.TheVariants.{Short, Protocol, Length, Code, Backwards, NoMemory}
@@ -9,24 +11,13 @@ use Rattle.mutations.specs.declared.mutation.Mutation.{Mutation}
 use Rattle.mutations.specs.Spelling.{protocol}
 use Rattle.mutations.specs.Parts.{u32_of, u64_of, parts_of}
 
--- the second step, where the first one has no fault
-infixl 10 ◌>>=◌
-abbrev pub ◌>>=◌ : {A B : Type 0} → Result A WireFault → (A → Result B WireFault) → Result B WireFault
-(Ok x) >>= f = f x
-(Err e) >>= f = Err e
-
--- what is there, or the fault
-abbrev pub there_or : {A : Type 0} → WireFault → Option A → Result A WireFault
-there_or fault None = Err fault
-there_or fault (Some x) = Ok x
-
 -- a clear goes forward
 abbrev pub clear_at : ℕ → Bytes → Bytes → Result Mutation WireFault
 clear_at at begin end = if is_below begin end then Ok (ClearRange begin end) else Err (Backwards at)
 
 abbrev pub atomic_at : ℕ → ℕ → Bytes → Bytes → Result Mutation WireFault
 atomic_at at code key param = do
-  op ← there_or (Code at code) (op_of_code code)
+  op ← found_or (Code at code) (op_of_code code)
   Ok (Atomic op key param)
 
 -- the mutation of a code and two strings that stand at a place of the batch
@@ -38,11 +29,12 @@ mutation_of at (suc (suc n)) first second = atomic_at at (suc (suc n)) first sec
 -- the mutation at the front, which stands at a place of the batch, and the bytes after it
 unfoldable pub mutation_at : ℕ → Bytes → Result (Mutation × Bytes) WireFault
 mutation_at at bytes = do
-  parts ← there_or (Short at) (parts_of bytes)
+  parts ← found_or (Short at) (parts_of bytes)
   mutation ← mutation_of at parts.code parts.first parts.second
   Ok (mutation, parts.rest)
 
--- The mutations that are the last bytes of a batch of `total` bytes, at most `most` of them. A mutation stands at the number of bytes before it.
+-- The mutations that are the last bytes of a batch of `total` bytes, at most `most` of them. A mutation
+-- stands at the number of bytes before it.
 unfoldable pub mutations_at : ℕ → ℕ → Bytes → Result (List Mutation) WireFault
 mutations_at most total [] = Ok []
 mutations_at zero total (b ∷ bs) = Ok []
@@ -65,11 +57,12 @@ abbrev pub unless_fault : {A : Type 0} → Option WireFault → Result A WireFau
 unless_fault None read = read
 unless_fault (Some fault) read = Err fault
 
--- The list that the bytes spell, or the first fault. Each mutation has a byte at least, so there are no more of them than bytes.
+-- The list that the bytes spell, or the first fault. Each mutation has a byte at least, so there are no
+-- more of them than bytes.
 abbrev pub decoded : Bytes → Result (List Mutation) WireFault
-decoded bytes = unless_fault (header_fault bytes) (mutations_at (length bytes) (length bytes) (drop 12 bytes))
+decoded bytes =
+    unless_fault (header_fault bytes) (mutations_at (length bytes) (length bytes) (drop 12 bytes))
 
--- What a call answered, seen by view, is what reading gives, unless memory ran out.
+-- what a call answered, seen by `view`, is what the reading gives, unless memory ran out
 abbrev pub Gives : {X Y : Type 0} → (X → Y) → Result X WireFault → Result Y WireFault → Type 0
-Gives view (Ok x) read = read ≡ Ok (view x)
-Gives view (Err e) read = (e ≡ NoMemory) ⊎ (read ≡ Err e)
+Gives view answer reading = GivesBut NoMemory view answer reading

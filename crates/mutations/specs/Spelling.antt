@@ -1,5 +1,5 @@
 -- The bytes of a batch: the number 7101, the length of the rest, and the mutations one after the other.
-use Rattle.std.specs.Prelude.{◌≡◌, ℕ, ◌<◌, ◌^◌, true, List, ◌++◌, length}
+use Rattle.std.specs.Prelude.{◌≡◌, ℕ, ◌-◌, ◌<◌, ◌^◌, min, true, List, ◌++◌, length}
 use Rattle.std.specs.List.{flat_map, AllByRecursion}
 use Rattle.std.specs.Int.{w32, w64, to_le_bytes}
 use Rattle.fb_bytes.specs.Bytes.{Bytes, is_below}
@@ -41,6 +41,10 @@ mutation_spelling m = parts_spelling (mutation_code m) (first_string m) (second_
 -- the mutation bytes of a batch
 abbrev pub mutations_spelling : List Mutation → Bytes
 mutations_spelling muts = flat_map mutation_spelling muts
+
+-- the number of mutation bytes, up to the greatest count of 128 bits
+abbrev pub counted_bytes : List Mutation → ℕ
+counted_bytes muts = min (length (mutations_spelling muts)) (2 ^ 128 - 1)
 
 -- the number that each batch begins with
 abbrev pub protocol : ℕ

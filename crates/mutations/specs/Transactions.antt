@@ -49,7 +49,8 @@ is_end_of_one begin end = is_same end (begin ++ 0 ∷ [])
 
 abbrev pub is_write_key_long : ℕ → Mutation → Bool
 is_write_key_long limit (Set key value) = is_long limit key
-is_write_key_long limit (ClearRange begin end) = is_long limit begin || (if is_end_of_one begin end then false else is_long limit end)
+is_write_key_long limit (ClearRange begin end) =
+    is_long limit begin || (if is_end_of_one begin end then false else is_long limit end)
 is_write_key_long limit (Atomic op key param) = is_long limit key
 
 -- a key of the operation is longer than the limit on keys
@@ -90,10 +91,15 @@ abbrev pub ◌or_else◌ : {X : Type 0} → Option X → Option X → Option X
 (Some x) or_else other = Some x
 None or_else other = other
 
--- The first fault, each test going over all operations before the next one. The limits are those on keys and on values.
+-- the most bytes that the writes of a transaction may have
+abbrev pub most_written : ℕ
+most_written = 10000000
+
+-- the first fault, each test going over all operations before the next one; the limits are those on
+-- keys and on values
 abbrev pub tx_fault : ℕ → ℕ → List TxOp → Option TxFault
 tx_fault keys values ops =
     option_map Outside (first_place is_outside ops)
     or_else option_map KeyTooLarge (first_place (is_key_long keys) ops)
     or_else option_map ValueTooLarge (first_place (is_value_long values) ops)
-    or_else (if nat_lt 10000000 (written_bytes ops) then Some (TooLarge (written_bytes ops)) else None)
+    or_else (if nat_lt most_written (written_bytes ops) then Some (TooLarge (written_bytes ops)) else None)

@@ -95,7 +95,7 @@ impl Batches {
     pub fn copy(&self) -> Result<Self, AllocError>
         ensures { IfOk result (λ batches. batches ≡ self.now) }
     {
-        let mut batches = Vec::new(*self.batches.allocator());
+        let mut batches = Vec::with_capacity(*self.batches.allocator(), self.batches.len())?;
         for batch in &self.batches {
             let batch = batch.copy()?;
             batches.push(batch)?;

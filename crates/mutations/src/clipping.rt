@@ -1,7 +1,8 @@
-ghost use Rattle.std.specs.Prelude.{◌≡◌, IfOk};
-ghost use Rattle.std.specs.List.{flat_map};
+ghost use Rattle.std.specs.Prelude.{◌≡◌, ◌≤◌, length, IfOk};
+ghost use Rattle.std.specs.List.{prefix_len};
+ghost use Rattle.fb_bytes.specs.Keys.{AreSeparate, is_passed};
 ghost use Rattle.mutations.specs.Effects as effects;
-ghost use Rattle.mutations.specs.Clipping.{cleared, clipped};
+ghost use Rattle.mutations.specs.Clipping.{clear_cut, clipped, begins_before};
 
 use crate::{Mutation, Muts};
 use fb_bytes::{Blob, KeyRange, Ranges, is_below};
@@ -42,16 +43,17 @@ pub fn touches(mutation: &Mutation, range: &KeyRange) -> bool
 }
 
 /// The intersections of a clear with the ranges, but the empty ones.
-pub fn clip_clear(
+fn clip_clear(
     alloc: Global,
     begin: &Blob,
     end: &Blob,
     ranges: &[KeyRange],
 ) -> Result<Muts, AllocError>
-    ensures { IfOk result (λ muts. muts ≡ flat_map (λ range. cleared (effects.common (effects.range_of begin.now end.now) range)) ranges.now) }
+    requires { AreSeparate ranges.now }
+    ensures { IfOk result (λ muts. muts ≡ clear_cut begin.now end.now ranges.now) }
 {
     let mut muts = Muts::new(alloc);
-    for range in ranges {
+    for range in met(begin, end, ranges) {
         let begin = later(begin, &range.begin);
         let end = earlier(end, &range.end);
         if is_below(begin.as_slice(), end.as_slice()) {
@@ -62,6 +64,35 @@ pub fn clip_clear(
         }
     }
     Ok(muts)
+}
+
+/// The ranges that a clear may meet, found by halving. It leaves the keys of the others as they are.
+pub fn met<'a>(begin: &Blob, end: &Blob, ranges: &'a [KeyRange]) -> &'a [KeyRange]
+    requires { AreSeparate ranges.now }
+    ensures { clear_cut begin.now end.now result.now ≡ clear_cut begin.now end.now ranges.now }
+{
+    let passed = passed_by(begin.as_slice(), ranges);
+    let rest = &ranges[passed..];
+    let begun = begun_before(end.as_slice(), rest);
+    &rest[..begun]
+}
+
+// How many ranges at the front the key is past.
+fn passed_by(key: &[u8], ranges: &[KeyRange]) -> usize
+    requires { AreSeparate ranges.now }
+    ensures count { result ≡ prefix_len (is_passed key.now) ranges.now }
+    ensures within { result ≤ length ranges.now }
+{
+    ranges.partition_point(|range| !is_below(key, range.end.as_slice()))
+}
+
+// How many ranges at the front begin before the key.
+fn begun_before(key: &[u8], ranges: &[KeyRange]) -> usize
+    requires { AreSeparate ranges.now }
+    ensures count { result ≡ prefix_len (begins_before key.now) ranges.now }
+    ensures within { result ≤ length ranges.now }
+{
+    ranges.partition_point(|range| is_below(range.begin.as_slice(), key))
 }
 
 /// What is left of a mutation in the ranges.

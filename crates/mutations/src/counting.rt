@@ -1,14 +1,12 @@
 //! How many bytes batches have, counted before anything is built.
 
-ghost use Rattle.std.specs.Prelude.{◌≡◌, ◌+◌, ◌-◌, ◌^◌, ◌<◌, [], ◌∷◌, length, min, if◌then◌else◌};
-ghost use Rattle.std.specs.List.{flat_map};
-ghost use Rattle.fb_bytes.specs.Keys as keys;
-ghost use Rattle.mutations.specs.Effects.{range_of, common};
-ghost use Rattle.mutations.specs.Clipping.{cleared, clipped, all_clipped};
-ghost use Rattle.mutations.specs.Spelling.{mutation_spelling, mutations_spelling};
+ghost use Rattle.std.specs.Prelude.{◌≡◌, ◌+◌, ◌^◌, ◌<◌, length};
+ghost use Rattle.fb_bytes.specs.Keys.{AreSeparate};
+ghost use Rattle.mutations.specs.Clipping.{kept_in, cut_to, clear_cut, clipped, all_clipped};
+ghost use Rattle.mutations.specs.Spelling.{mutation_spelling, mutations_spelling, counted_bytes};
 
 use crate::Mutation;
-use crate::clipping::{earlier, later};
+use crate::clipping::{earlier, later, met};
 use fb_bytes::{Blob, KeyRange, Ranges, is_below};
 
 /// The bytes of a mutation with these strings.
@@ -40,7 +38,7 @@ pub fn mutation_bytes(muts: &[Mutation]) -> u128
 
 /// The bytes of the clear of an intersection, unless that is empty.
 fn cut_len(begin: &Blob, end: &Blob, range: &KeyRange) -> u128
-    ensures { result ≡ length (mutations_spelling (cleared (common (range_of begin.now end.now) range.now))) }
+    ensures { result ≡ length (mutations_spelling (cut_to begin.now end.now range.now)) }
 {
     let begin = later(begin, &range.begin);
     let end = earlier(end, &range.end);
@@ -54,10 +52,11 @@ fn cut_len(begin: &Blob, end: &Blob, range: &KeyRange) -> u128
 /// The bytes of the intersections of a clear with the ranges. A count of more than `u128::MAX` stops
 /// there.
 fn cleared_len(begin: &Blob, end: &Blob, ranges: &[KeyRange]) -> u128
-    ensures { result ≡ min (length (mutations_spelling (flat_map (λ range. cleared (common (range_of begin.now end.now) range)) ranges.now))) (2 ^ 128 - 1) }
+    requires { AreSeparate ranges.now }
+    ensures { result ≡ counted_bytes (clear_cut begin.now end.now ranges.now) }
 {
     let mut total: u128 = 0;
-    for range in ranges {
+    for range in met(begin, end, ranges) {
         total = total.saturating_add(cut_len(begin, end, range));
     }
     total
@@ -65,7 +64,7 @@ fn cleared_len(begin: &Blob, end: &Blob, ranges: &[KeyRange]) -> u128
 
 /// The bytes of a mutation whose key is in the ranges, or else none.
 fn kept_len(mutation: &Mutation, key: &Blob, ranges: &Ranges) -> u128
-    ensures { result ≡ length (mutations_spelling (if keys.in_ranges ranges.now key.now then mutation.now ∷ [] else [])) }
+    ensures { result ≡ length (mutations_spelling (kept_in ranges.now key.now mutation.now)) }
 {
     if ranges.contains(key.as_slice()) {
         mutation_len(mutation)
@@ -75,7 +74,7 @@ fn kept_len(mutation: &Mutation, key: &Blob, ranges: &Ranges) -> u128
 }
 
 fn clipped_len(mutation: &Mutation, ranges: &Ranges) -> u128
-    ensures { result ≡ min (length (mutations_spelling (clipped ranges.now mutation.now))) (2 ^ 128 - 1) }
+    ensures { result ≡ counted_bytes (clipped ranges.now mutation.now) }
 {
     match mutation {
         Mutation::Set { key, .. } | Mutation::Atomic { key, .. } => {
@@ -88,7 +87,7 @@ fn clipped_len(mutation: &Mutation, ranges: &Ranges) -> u128
 /// The number of mutation bytes of a batch of what clipping leaves of these mutations. A count of
 /// more than `u128::MAX` stops there.
 pub fn clipped_bytes(muts: &[Mutation], ranges: &Ranges) -> u128
-    ensures { result ≡ min (length (mutations_spelling (all_clipped ranges.now muts.now))) (2 ^ 128 - 1) }
+    ensures { result ≡ counted_bytes (all_clipped ranges.now muts.now) }
 {
     let mut total: u128 = 0;
     for mutation in muts {

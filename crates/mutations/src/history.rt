@@ -120,7 +120,7 @@ impl History {
     pub fn copy(&self) -> Result<Self, AllocError>
         ensures { IfOk result (λ entries. entries ≡ self.now) }
     {
-        let mut entries = Vec::new(*self.entries.allocator());
+        let mut entries = Vec::with_capacity(*self.entries.allocator(), self.entries.len())?;
         for entry in &self.entries {
             let entry = entry.copy()?;
             entries.push(entry)?;

@@ -75,7 +75,7 @@ impl Muts {
     pub fn copy(&self) -> Result<Self, AllocError>
         ensures { IfOk result (λ mutations. mutations ≡ self.now) }
     {
-        let mut mutations = Vec::new(*self.mutations.allocator());
+        let mut mutations = Vec::with_capacity(*self.mutations.allocator(), self.mutations.len())?;
         for mutation in &self.mutations {
             let mutation = mutation.copy()?;
             mutations.push(mutation)?;

@@ -1,4 +1,4 @@
-ghost use Rattle.std.specs.Prelude.{◌≡◌, IfOk};
+ghost use Rattle.std.specs.Prelude.{◌≡◌, [], ◌∷◌, IfOk};
 
 use super::*;
 use fb_bytes::{Blob, KeyRange, RangeFault, Ranges, is_same};
@@ -44,15 +44,21 @@ fn is_clear(mutation: &Mutation, wanted_begin: &[u8], wanted_end: &[u8]) -> bool
     }
 }
 
-#[test]
-fn batch_of_one_set(rt: HostRuntime) -> Result<(), Fail> {
-    let alloc = rt.alloc();
+fn one_set(alloc: Global) -> Result<Muts, AllocError>
+    ensures { IfOk result (λ muts. muts ≡ Mutation.Set (97 ∷ []) (49 ∷ []) ∷ []) }
+{
     let mut muts = Muts::new(alloc);
     muts.push(set(alloc, b"a", b"1")?)?;
+    Ok(muts)
+}
+
+#[test]
+fn batch_of_one_set(rt: HostRuntime) -> Result<(), Fail> {
+    let muts = one_set(rt.alloc())?;
     assert_eq!(rt; mutation_bytes(muts.as_slice()), 14);
-    let batch = encode_batch(alloc, &muts)?;
+    let batch = encode_batch(rt.alloc(), &muts)?;
     assert_eq!(rt; batch.as_slice(), SET.as_slice());
-    let back = decode_batch(alloc, &SET)?;
+    let back = decode_batch(rt.alloc(), &SET)?;
     let [mutation] = back.as_slice() else {
         return Err("one mutation".into());
     };
@@ -60,18 +66,9 @@ fn batch_of_one_set(rt: HostRuntime) -> Result<(), Fail> {
     Ok(())
 }
 
-/// A batch of these mutation bytes.
-fn batch(alloc: Global, body: &[u8]) -> Result<Vec<u8>, AllocError> {
-    let mut bytes = Vec::from_slice(alloc, &SET[..8])?;
-    let length = (body.len() % 256) as u8;
-    bytes.extend_from_slice(&[length, 0, 0, 0])?;
-    bytes.extend_from_slice(body)?;
-    Ok(bytes)
-}
-
 #[test]
-fn bytes_that_are_no_batch(rt: HostRuntime) -> Result<(), Fail> {
-    let whole: [(&[u8], WireFault); 4] = [
+fn bytes_that_are_no_batch(rt: HostRuntime) {
+    let rows: [(&[u8], WireFault); 6] = [
         (&SET[..11], WireFault::Short { at: 0 }),
         (
             &SET[..25],
@@ -82,50 +79,28 @@ fn bytes_that_are_no_batch(rt: HostRuntime) -> Result<(), Fail> {
         ),
         (&[0; 12], WireFault::Protocol { found: 0 }),
         (
-            &[0xbd, 0x1b, 0, 0, 0, 0, 0, 0, 0, 0, 0, 0, 9],
-            WireFault::Length { said: 0, found: 1 },
-        ),
-    ];
-    for (bytes, fault) in whole {
-        assert_eq!(rt; decode_batch(rt.alloc(), bytes).err(), Some(fault));
-    }
-    let bodies: [(&[u8], WireFault); 7] = [
-        (&[0; 11], WireFault::Short { at: 12 }),
-        (
-            &[0, 0, 0, 0, 1, 0, 0, 0, 1, 0, 0, 0, 0x61],
-            WireFault::Short { at: 12 },
-        ),
-        (
-            &[15, 0, 0, 0, 1, 0, 0, 0, 0, 0, 0, 0],
-            WireFault::Short { at: 12 },
-        ),
-        (
-            &[14, 0, 0, 0, 0, 0, 0, 0, 0, 0, 0, 0],
+            &[
+                0xbd, 0x1b, 0, 0, 0, 0, 0, 0, 12, 0, 0, 0, 14, 0, 0, 0, 0, 0, 0, 0, 0, 0, 0, 0,
+            ],
             WireFault::Code { at: 12, code: 14 },
         ),
         (
-            &[15, 0, 0, 0, 0, 0, 0, 0, 0, 0, 0, 0],
-            WireFault::Code { at: 12, code: 15 },
-        ),
-        (
-            &[1, 0, 0, 0, 1, 0, 0, 0, 1, 0, 0, 0, 0x61, 0x61],
+            &[
+                0xbd, 0x1b, 0, 0, 0, 0, 0, 0, 14, 0, 0, 0, 1, 0, 0, 0, 1, 0, 0, 0, 1, 0, 0, 0,
+                0x61, 0x61,
+            ],
             WireFault::Backwards { at: 12 },
         ),
         (
-            &[0, 0, 0, 0, 0, 0, 0, 0, 0, 0, 0, 0, 1, 0],
+            &[
+                0xbd, 0x1b, 0, 0, 0, 0, 0, 0, 14, 0, 0, 0, 0, 0, 0, 0, 0, 0, 0, 0, 0, 0, 0, 0, 1, 0,
+            ],
             WireFault::Short { at: 24 },
         ),
     ];
-    for (body, fault) in bodies {
-        let bytes = batch(rt.alloc(), body)?;
-        assert_eq!(rt;
-            decode_batch(rt.alloc(), bytes.as_slice()).err(),
-            Some(fault)
-        );
+    for (bytes, fault) in rows {
+        assert_eq!(rt; decode_batch(rt.alloc(), bytes).err(), Some(fault));
     }
-    let empty = batch(rt.alloc(), &[])?;
-    assert!(rt; decode_batch(rt.alloc(), empty.as_slice())?.is_empty());
-    Ok(())
 }
 
 fn two_ranges(alloc: Global) -> Result<Ranges, RangeFault> {
@@ -167,44 +142,46 @@ fn touched_ranges(rt: HostRuntime) -> Result<(), Fail> {
     Ok(())
 }
 
-#[test]
-fn copies(rt: HostRuntime) -> Result<(), Fail> {
-    let alloc = rt.alloc();
-    let mut muts = Muts::new(alloc);
-    muts.push(set(alloc, b"a", b"1")?)?;
+fn one_entry(alloc: Global) -> Result<History, AllocError> {
     let mut history = History::new(alloc);
-    let who = Who::Client {
-        client: 1,
-        place: 0,
-    };
     history.push(Entry {
         version: 20,
-        who,
-        muts,
+        who: Who::Load { job: 1 },
+        muts: one_set(alloc)?,
     })?;
-    let mut copy = history.copy()?;
-    let entry = copy.pop().ok_or("one entry")?;
-    assert_eq!(rt; entry.version, 20);
-    assert_eq!(rt; entry.who, who);
-    assert_eq!(rt; copy.len(), 0);
+    Ok(history)
+}
+
+fn one_batch(alloc: Global) -> Result<LogChunk, AllocError> {
     let mut batches = Batches::new(alloc);
     batches.push(Batch {
         version: 20,
-        muts: entry.muts,
+        muts: one_set(alloc)?,
     })?;
-    let chunk = LogChunk {
+    Ok(LogChunk {
         begin: 10,
         end: 21,
         batches,
-    }
-    .copy()?;
-    assert_eq!(rt; (chunk.begin, chunk.end, chunk.batches.len()), (10, 21, 1));
+    })
+}
+
+fn one_write(alloc: Global) -> Result<TxOps, AllocError> {
     let mut ops = TxOps::new(alloc);
-    ops.push(TxOp::Write(set(alloc, b"a", b"1")?))?;
     ops.push(TxOp::Get {
         key: Blob::from_slice(alloc, b"a")?,
     })?;
-    assert_eq!(rt; ops.copy()?.len(), 2);
+    ops.push(TxOp::Write(set(alloc, b"a", b"1")?))?;
+    Ok(ops)
+}
+
+#[test]
+fn copies(rt: HostRuntime) -> Result<(), Fail> {
+    let history = one_entry(rt.alloc())?.copy()?;
+    assert_eq!(rt; history.len(), 1);
+    let chunk = one_batch(rt.alloc())?.copy()?;
+    assert_eq!(rt; chunk.batches.len(), 1);
+    let ops = one_write(rt.alloc())?.copy()?;
+    assert_eq!(rt; ops.writes(rt.alloc())?.len(), 1);
     Ok(())
 }
 

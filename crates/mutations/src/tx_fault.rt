@@ -6,6 +6,9 @@ ghost use Rattle.mutations.specs.Transactions.{tx_fault, is_outside, is_key_long
 use crate::{Mutation, TxOp};
 use fb_bytes::{is_below, is_same};
 
+/// The most bytes that the writes of a transaction may have.
+const MOST_WRITTEN: u128 = 10_000_000;
+
 /// What a transaction's own keys and values say against it. Operations are counted from 0.
 #[derive(Clone, Copy, Debug, PartialEq, Eq)]
 pub enum TxFault {
@@ -33,7 +36,7 @@ pub fn fault_of(ops: &[TxOp], key_limit: usize, value_limit: usize) -> Option<Tx
         return Some(TxFault::ValueTooLarge { index });
     }
     let bytes = bytes_of_writes(ops);
-    if bytes > 10_000_000 {
+    if bytes > MOST_WRITTEN {
         return Some(TxFault::TooLarge { bytes });
     }
     None

@@ -103,11 +103,18 @@ impl TxOps {
         Ok(())
     }
 
+    /// Gives memory back that no operation stands in.
+    pub fn shrink_to_fit(&mut self)
+        ensures { self.new ≡ self.old }
+    {
+        self.ops.shrink_to_fit();
+    }
+
     /// An equal list with memory of its own.
     pub fn copy(&self) -> Result<Self, AllocError>
         ensures { IfOk result (λ ops. ops ≡ self.now) }
     {
-        let mut ops = Vec::new(*self.ops.allocator());
+        let mut ops = Vec::with_capacity(*self.ops.allocator(), self.ops.len())?;
         for op in &self.ops {
             let op = op.copy()?;
             ops.push(op)?;
@@ -137,24 +144,20 @@ impl TxOps {
     pub fn writes(&self, alloc: Global) -> Result<Muts, AllocError>
         ensures { IfOk result (λ muts. muts ≡ writes_of self.now) }
     {
-        let mut writes = Vec::new(alloc);
+        let mut writes = Vec::with_capacity(alloc, self.ops.len())?;
         for op in &self.ops {
             if let TxOp::Write(mutation) = op {
                 let mutation = mutation.copy()?;
                 writes.push(mutation)?;
             }
         }
+        writes.shrink_to_fit();
         Ok(Muts::from_vec(writes))
     }
 }
 
 impl TryCopy for TxOps {
     fn copy(&self) -> Result<Self, AllocError> {
-        let mut ops = Vec::new(*self.ops.allocator());
-        for op in &self.ops {
-            let op = op.copy()?;
-            ops.push(op)?;
-        }
-        Ok(TxOps { ops })
+        TxOps::copy(self)
     }
 }

@@ -28,7 +28,7 @@ fn script(alloc: Global) -> Result<ClientScript, AllocError> {
     Ok(ClientScript {
         number: 1,
         side: Side::Src,
-        txns,
+        txns: SharedSeq::from_vec(txns.into_vec())?,
     })
 }
 

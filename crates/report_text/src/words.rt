@@ -3,7 +3,7 @@
 ghost use Rattle.std.specs.Prelude.{◌≡◌, [], ◌∷◌, ◌++◌, OnOk};
 ghost use Rattle.fb_bytes.specs.Words.{printed};
 
-use fb_bytes::{Blob, print_bytes};
+use fb_bytes::{Blob, put_printed};
 use itoa::{Buffer, Integer};
 use std::alloc::{AllocError, Global};
 
@@ -40,6 +40,5 @@ pub fn put_last<N: Integer>(out: &mut Blob, text: &[u8], number: N) -> Result<()
 pub fn put_bytes(alloc: Global, out: &mut Blob, bytes: &[u8]) -> Result<(), AllocError>
     ensures { OnOk result (out.new ≡ out.old ++ printed bytes.now) }
 {
-    let word = print_bytes(alloc, bytes)?;
-    out.extend_from_slice(word.as_bytes())
+    put_printed(alloc, out, bytes)
 }

@@ -1,3 +1,6 @@
-pub mod Placing
 pub mod Walking
+pub mod Placing
+pub mod Walks
 pub mod Manifests
+pub mod Sorting
+pub mod Taking

@@ -1,5 +1,5 @@
 -- What the manifest of noted files says of them.
-use Rattle.std.proofs.Common.{◌≡◌, ◌≢◌, ℕ, suc, ◌+◌, ◌≤◌, min, max, Bool, true, false, List, [], ◌∷◌, length, sum_by, Option, Some, None, is_some, inl, inr, refl, sym, ap, ◌∙◌, subst, arith, ◌⊎◌, ◌↔◌}
+use Rattle.std.proofs.Common.{◌≡◌, ◌≢◌, ℕ, suc, ◌+◌, ◌≤◌, min, max, Bool, true, false, List, [], ◌∷◌, length, drop, get_or, ◌<◌, sum_by, Option, Some, None, is_some, inl, inr, refl, sym, ap, ◌∙◌, subst, arith, ◌⊎◌, ◌↔◌}
 use Rattle.std.specs.List.{AllByRecursion}
 use Rattle.std.proofs.lemmas.List.Sums.{sum_by-cons}
 use Rattle.std.proofs.lemmas.Bool.{cond_both, and_from}
@@ -7,8 +7,9 @@ use Rattle.fb_bytes.specs.Bytes.{Bytes, is_below, is_same}
 use Rattle.fb_bytes.specs.Options.{IsIn}
 use Rattle.fb_bytes.proofs.Order.{below_not_back, neither_below, same_both, same_eq, not_both}
 use Rattle.manifests.specs.Files.{version_of, AreRangeNames, widest, alone, span_of}
-use Rattle.snapshot_plan.specs.Noted.{Noted, placed, with_name, names_of, least_of, greatest_of, bytes_of, most_bytes, manifest_of}
+use Rattle.snapshot_plan.specs.Noted.{Noted, placed, with_name, names_of, least_of, greatest_of, bytes_of, manifest_of}
 use Rattle.snapshot_plan.specs.Listing.{noted_names, IsLeastVersion, IsGreatestVersion, NameFrom, AreOrdered, NamePast, AreRising, IsNew, AreDistinct, HaveRangeNames}
+use Rattle.snapshot_plan.proofs.Placing.{at_place}
 use Rattle.snapshot_plan.specs.Laws.{ManifestLaw, WholeLaw}
 
 -- ---- one more in a list
@@ -39,7 +40,7 @@ in_placed before x z (y ∷ ys) i = placed_cases before x y ys (λ zs. IsIn z zs
     behind (inr (inl e)) ih = inl e
     behind (inr (inr i)) ih = inr (ih (inr i))
 
-placed_length : {X : Type 0} (before : X → Bool) (x : X) (xs : List X) → length (placed before x xs) ≡ suc (length xs)
+pub placed_length : {X : Type 0} (before : X → Bool) (x : X) (xs : List X) → length (placed before x xs) ≡ suc (length xs)
 placed_length before x [] = refl
 placed_length before x (y ∷ ys) = placed_cases before x y ys (λ zs. length zs ≡ suc (suc (length ys))) (λ t. ap suc (placed_length before x ys)) (λ f. refl)
 
@@ -60,7 +61,7 @@ with_name_ordered name (n ∷ ns) a =
     (λ t. (ordered_head name n ns t a.0, with_name_ordered name ns a.1))
     (λ f. (f, a))
 
-names_ordered : (names : List Bytes) (ns : List Noted) → AreOrdered names → AreOrdered (names_of names ns)
+pub names_ordered : (names : List Bytes) (ns : List Noted) → AreOrdered names → AreOrdered (names_of names ns)
 names_ordered names [] a = a
 names_ordered names (n ∷ ns) a = names_ordered (with_name n.file.name names) ns (with_name_ordered n.file.name names a)
 
@@ -69,7 +70,7 @@ rising_head name n [] b f = b
 rising_head name n (m ∷ ms) b f = placed_cases (λ x. is_below x name) name m ms (λ zs. NamePast n zs) (λ t. f) (λ t. b)
 
 -- of two names that aren't the same, one is below the other
-one_below : (x y : Bytes) → is_same x y ≡ false → is_below y x ≡ false → is_below x y ≡ true
+pub one_below : (x y : Bytes) → is_same x y ≡ false → is_below y x ≡ false → is_below x y ≡ true
 one_below x y s h = go (is_below x y) refl
   where
     go : (b : Bool) → is_below x y ≡ b → is_below x y ≡ true
@@ -221,12 +222,23 @@ end_is (n ∷ ns) h = record {
 abbrev bytes_in : List Noted → ℕ
 bytes_in ns = sum_by (λ n. n.file.bytes) ns
 
-bytes_up : (bytes : ℕ) (ns : List Noted) → bytes ≤ most_bytes → bytes_of bytes ns ≡ min most_bytes (bytes + bytes_in ns)
-bytes_up bytes [] h = omega arith
-bytes_up bytes (n ∷ ns) h =
-    let ih = bytes_up (min most_bytes (bytes + n.file.bytes)) ns (omega arith) in
+bytes_up : (bytes : ℕ) (ns : List Noted) → bytes_of bytes ns ≡ bytes + bytes_in ns
+bytes_up bytes [] = omega arith
+bytes_up bytes (n ∷ ns) =
+    let ih = bytes_up (bytes + n.file.bytes) ns in
     let more = sum_by-cons (λ (x : Noted). x.file.bytes) n ns in
     omega (arith, ih, more)
+
+-- more files don't take bytes away
+pub bytes_grow : (bytes : ℕ) (ns : List Noted) → bytes ≤ bytes_of bytes ns
+bytes_grow bytes ns = let e = bytes_up bytes ns in omega (arith, e)
+
+-- so a file that takes them past a number takes all of them past it
+pub bytes_past : (noted : List Noted) (place bytes most : ℕ) (one : Noted) → place < length noted → one ≡ get_or noted place one → bytes_of bytes (drop place noted) ≡ bytes_of 0 noted → most < bytes + one.file.bytes → most < bytes_of 0 noted
+bytes_past noted place bytes most one lt e same past =
+    let total = sym same ∙ ap (bytes_of bytes) (at_place noted place one lt e) in
+    let grow = bytes_grow (bytes + one.file.bytes) (drop (place + 1) noted) in
+    omega (arith, total, grow)
 
 pub files_are : (noted : List Noted) → (manifest_of noted).files ≡ names_of [] noted
 files_are [] = refl
@@ -246,8 +258,8 @@ files_is noted name = (λ i. there (names_in name [] noted (subst (IsIn name) (f
 count_is : (noted : List Noted) → length (names_of [] noted) ≡ length noted
 count_is noted = let h = names_length [] noted in omega (arith, h)
 
-sum_is : (noted : List Noted) → bytes_of 0 noted ≡ min most_bytes (bytes_in noted)
-sum_is noted = let h = bytes_up 0 noted (omega arith) in omega (arith, h)
+sum_is : (noted : List Noted) → bytes_of 0 noted ≡ bytes_in noted
+sum_is noted = let h = bytes_up 0 noted in omega (arith, h)
 
 pub manifest_law : ManifestLaw
 manifest_law = record {
@@ -318,5 +330,4 @@ whole_law (n ∷ ns) empty h d = record {
     versions = span_is (n.file.name ∷ []) ns n.file.version n.file.version (ap (λ o. widest (alone o) None) h.0) h.1;
   };
   ordered = let l = least_below n.file.version ns in let g = greatest_above n.file.version ns in omega (arith, l, g);
-  fits = let e = bytes_up 0 (n ∷ ns) (omega arith) in omega (arith, e);
 }

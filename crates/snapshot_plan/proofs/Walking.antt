@@ -4,11 +4,12 @@ use Rattle.std.proofs.lemmas.Bool.{cond_both, and_parts, and_from, not_from_fals
 use Rattle.fb_bytes.specs.Bytes.{Bytes, is_below}
 use Rattle.fb_bytes.specs.declared.KeyRange.{KeyRange}
 use Rattle.fb_bytes.specs.Keys.{holds, in_ranges, is_backwards, BeginPast, AreSeparate}
-use Rattle.fb_bytes.proofs.Order.{below_trans, below_up, below_down, below_itself, below_not_back, not_both}
+use Rattle.fb_bytes.proofs.Order.{below_trans, below_up, below_down, below_itself, below_not_back, neither_below, not_both}
 use Rattle.snapshot_plan.specs.declared.fault.MapFault.{MapFault}
-use Rattle.snapshot_plan.specs.Noted.{Noted, Map, pieces_of, with_noted, unless_inside, fault_of}
-use Rattle.snapshot_plan.specs.Pieces.{BeginFrom, ArePieces, covered_from, outside, overlaps, later, overlap, or_else, gap_in, IsFirstOrNone}
-use Rattle.snapshot_plan.specs.Laws.{PieceLaw}
+use Rattle.snapshot_plan.specs.declared.fault.MapFault.TheVariants.{OutsideRanges, Overlap}
+use Rattle.snapshot_plan.specs.Noted.{Noted, Map, pieces_of, with_noted, unless_inside, gap, fault_of}
+use Rattle.snapshot_plan.specs.Pieces.{BeginFrom, ArePieces, covered_from, outside, overlaps, later, overlap, or_else, gap_in, if_below, IsFirst, IsFirstOrNone}
+use Rattle.snapshot_plan.specs.Laws.{is_out, IsMap, IsInside, PieceLaw, LeastKeyLaw}
 
 -- ---- tests of keys
 
@@ -37,10 +38,10 @@ holds_parts r key h = let p = and_parts (not (is_below key r.begin)) (is_below k
 holds_from : (r : KeyRange) (key : Bytes) → is_below key r.begin ≡ false → is_below key r.end ≡ true → holds r key ≡ true
 holds_from r key h g = and_from (not (is_below key r.begin)) (is_below key r.end) (not_from_false (is_below key r.begin) h) g
 
-not_before : (r : KeyRange) (key : Bytes) → is_below key r.begin ≡ true → holds r key ≡ false
+pub not_before : (r : KeyRange) (key : Bytes) → is_below key r.begin ≡ true → holds r key ≡ false
 not_before r key h = rw h refl
 
-not_past : (r : KeyRange) (key : Bytes) → is_below key r.end ≡ false → holds r key ≡ false
+pub not_past : (r : KeyRange) (key : Bytes) → is_below key r.end ≡ false → holds r key ≡ false
 not_past r key h = go (is_below key r.begin)
   where
     go : (b : Bool) → (not b && is_below key r.end) ≡ false
@@ -63,14 +64,14 @@ none_of : (a b : Bool) → (a || b) ≡ false → (a ≡ false) × (b ≡ false)
 none_of true b h = not_both refl h
 none_of false b h = (refl, h)
 
-by : {P : Type 0} (b : Bool) → (b ≡ true → P) → (b ≡ false → P) → P
+pub by : {P : Type 0} (b : Bool) → (b ≡ true → P) → (b ≡ false → P) → P
 by true t f = t refl
 by false t f = f refl
 
 -- ---- pieces in order
 
 -- a key before the first piece is in none
-before_all : (key : Bytes) (p : KeyRange) (ps : List KeyRange) → ArePieces (p ∷ ps) → is_below key p.begin ≡ true → in_ranges (p ∷ ps) key ≡ false
+pub before_all : (key : Bytes) (p : KeyRange) (ps : List KeyRange) → ArePieces (p ∷ ps) → is_below key p.begin ≡ true → in_ranges (p ∷ ps) key ≡ false
 before_all key p [] a h = rw (not_before p key h) refl
 before_all key p (q ∷ ps) a h =
     let past = below_trans key p.begin p.end h (proper p a.0) in
@@ -85,7 +86,7 @@ before_from : (key end : Bytes) (ps : List KeyRange) → BeginFrom end ps → Ar
 before_from key end [] b a h = refl
 before_from key end (p ∷ ps) b a h = before_all key p ps a (below_up key p.begin end h b)
 
-separate_pieces : (ranges : List KeyRange) → AreSeparate ranges → ArePieces ranges
+pub separate_pieces : (ranges : List KeyRange) → AreSeparate ranges → ArePieces ranges
 separate_pieces [] s = tt
 separate_pieces (r ∷ rs) s = (s.0, first rs s.1, separate_pieces rs s.2)
   where
@@ -96,19 +97,19 @@ separate_pieces (r ∷ rs) s = (s.0, first rs s.1, separate_pieces rs s.2)
 -- ---- the walk
 
 -- what a step of the walk does
-step_in : (p : KeyRange) (ps : List KeyRange) (key : Bytes) → holds p key ≡ true → covered_from (p ∷ ps) key ≡ covered_from ps p.end
+pub step_in : (p : KeyRange) (ps : List KeyRange) (key : Bytes) → holds p key ≡ true → covered_from (p ∷ ps) key ≡ covered_from ps p.end
 step_in p ps key h = rw h refl
 
-step_over : (p : KeyRange) (ps : List KeyRange) (key : Bytes) → holds p key ≡ false → covered_from (p ∷ ps) key ≡ covered_from ps key
+pub step_over : (p : KeyRange) (ps : List KeyRange) (key : Bytes) → holds p key ≡ false → covered_from (p ∷ ps) key ≡ covered_from ps key
 step_over p ps key h = rw h refl
 
 -- it stays at a key that no piece holds
-walk_stays : (ps : List KeyRange) (key : Bytes) → in_ranges ps key ≡ false → covered_from ps key ≡ key
+pub walk_stays : (ps : List KeyRange) (key : Bytes) → in_ranges ps key ≡ false → covered_from ps key ≡ key
 walk_stays [] key h = refl
 walk_stays (p ∷ ps) key h = let n = none_of (holds p key) (in_ranges ps key) h in step_over p ps key n.0 ∙ walk_stays ps key n.1
 
 -- it goes on
-walk_on : (ps : List KeyRange) (key : Bytes) → is_below (covered_from ps key) key ≡ false
+pub walk_on : (ps : List KeyRange) (key : Bytes) → is_below (covered_from ps key) key ≡ false
 walk_on [] key = below_itself key
 walk_on (p ∷ ps) key = by (holds p key)
     (λ h. let parts = holds_parts p key h in
@@ -149,26 +150,23 @@ walk_covers (p ∷ ps) key other h g = by (holds p key)
 
 -- ---- the least key outside
 
-abbrev out : List KeyRange → Bytes → Bool
-out ps key = not (in_ranges ps key)
-
-not_true : (b : Bool) → b ≡ true → not b ≡ false
+pub not_true : (b : Bool) → b ≡ true → not b ≡ false
 not_true b h = ap not h
 
-not_false : (b : Bool) → b ≡ false → not b ≡ true
+pub not_false : (b : Bool) → b ≡ false → not b ≡ true
 not_false b h = ap not h
 
 from_not : (b : Bool) → not b ≡ true → b ≡ false
 from_not true h = not_both h refl
 from_not false h = refl
 
-outside_is : (ps : List KeyRange) (range : KeyRange) → ArePieces ps → is_backwards range ≡ false → IsFirstOrNone (holds range) (out ps) (outside ps range)
-outside_is ps range a proper_range = go (is_below k range.end) refl
+outside_is : (ps : List KeyRange) (range : KeyRange) → ArePieces ps → IsFirstOrNone (holds range) (is_out ps) (outside ps range)
+outside_is ps range a = go (is_below k range.end) refl
   where
     k : Bytes
     k = covered_from ps range.begin
 
-    go : (b : Bool) → is_below k range.end ≡ b → IsFirstOrNone (holds range) (out ps) (cond b (Some k) None)
+    go : (b : Bool) → is_below k range.end ≡ b → IsFirstOrNone (holds range) (is_out ps) (cond b (Some k) None)
     go true e = record {
       inside = holds_from range k (walk_on ps range.begin) e;
       passes = not_false (in_ranges ps k) (walk_ends ps range.begin a);
@@ -185,7 +183,7 @@ outside_is ps range a proper_range = go (is_below k range.end) refl
 later_from : (a b key : Bytes) → is_below key a ≡ false → is_below key b ≡ false → is_below key (later a b) ≡ false
 later_from a b key h g = cond_both (is_below a b) b a (λ k. is_below key k ≡ false) (λ t. g) (λ f. h)
 
-later_first : (a b : Bytes) → is_below (later a b) a ≡ false
+pub later_first : (a b : Bytes) → is_below (later a b) a ≡ false
 later_first a b = cond_both (is_below a b) b a (λ k. is_below k a ≡ false) (λ t. below_not_back a b t) (λ f. below_itself a)
 
 later_second : (a b : Bytes) → is_below (later a b) b ≡ false
@@ -201,9 +199,9 @@ common_overlaps p r key h g =
     let b = holds_parts r key g in
     and_from (is_below p.begin r.end) (is_below r.begin p.end) (below_down p.begin key r.end a.0 b.1) (below_down r.begin key p.end b.0 a.1)
 
-overlap_is : (ps : List KeyRange) (range : KeyRange) → ArePieces ps → is_backwards range ≡ false → IsFirstOrNone (holds range) (in_ranges ps) (overlap ps range)
-overlap_is [] range a proper_range = λ key h. refl
-overlap_is (p ∷ ps) range a proper_range = go (overlaps p range) refl (overlap_is ps range a.2 proper_range)
+overlap_is : (ps : List KeyRange) (range : KeyRange) → ArePieces ps → IsFirstOrNone (holds range) (in_ranges ps) (overlap ps range)
+overlap_is [] range a = λ key h. refl
+overlap_is (p ∷ ps) range a = go (overlaps p range) refl (overlap_is ps range a.2)
   where
     k : Bytes
     k = later p.begin range.begin
@@ -218,24 +216,29 @@ overlap_is (p ∷ ps) range a proper_range = go (overlaps p range) refl (overlap
           (λ q. first.least other h (sym (ap (λ b. b || in_ranges ps other) q) ∙ t));
     }
 
-    go : (b : Bool) → overlaps p range ≡ b → IsFirstOrNone (holds range) (in_ranges ps) (overlap ps range) → IsFirstOrNone (holds range) (in_ranges (p ∷ ps)) (cond b (Some k) (overlap ps range))
-    go true o ih =
-        let parts = and_parts (is_below p.begin range.end) (is_below range.begin p.end) o in
-        record {
-          inside = holds_from range k (later_second p.begin range.begin) (later_below p.begin range.begin range.end parts.0 (proper range proper_range));
-          passes = or_left (holds p k) (in_ranges ps k) (holds_from p k (later_first p.begin range.begin) (later_below p.begin range.begin p.end (proper p a.0) parts.1));
-          least = λ other h t.
-              let from = (holds_parts range other h).0 in
-              by (is_below other p.begin)
-              (λ b. not_both t (before_all other p ps a b))
-              (λ b. later_from p.begin range.begin other b from);
-        }
+    here : (is_below p.begin range.end ≡ true) × (is_below range.begin p.end ≡ true) → (b : Bool) → is_below k range.end ≡ b → IsFirstOrNone (holds range) (in_ranges (p ∷ ps)) (cond b (Some k) None)
+    here parts true e = record {
+      inside = holds_from range k (later_second p.begin range.begin) e;
+      passes = or_left (holds p k) (in_ranges ps k) (holds_from p k (later_first p.begin range.begin) (later_below p.begin range.begin p.end (proper p a.0) parts.1));
+      least = λ other h t.
+          let from = (holds_parts range other h).0 in
+          by (is_below other p.begin)
+          (λ b. not_both t (before_all other p ps a b))
+          (λ b. later_from p.begin range.begin other b from);
+    }
+    -- the range has no key
+    here parts false e = λ key h.
+        let held = holds_parts range key h in
+        not_both (later_below p.begin range.begin range.end parts.0 (below_down range.begin key range.end held.0 held.1)) e
+
+    go : (b : Bool) → overlaps p range ≡ b → IsFirstOrNone (holds range) (in_ranges ps) (overlap ps range) → IsFirstOrNone (holds range) (in_ranges (p ∷ ps)) (cond b (if_below k range.end) (overlap ps range))
+    go true o ih = here (and_parts (is_below p.begin range.end) (is_below range.begin p.end) o) (is_below k range.end) refl
     go false o ih = rest o (overlap ps range) ih
 
 -- ---- the least key of all ranges outside
 
-first_in_more : (r : KeyRange) (rs ps : List KeyRange) (found : Option Bytes) → ArePieces (r ∷ rs) → IsFirstOrNone (holds r) (out ps) found
-    → (other : Option Bytes) → IsFirstOrNone (in_ranges rs) (out ps) other → IsFirstOrNone (in_ranges (r ∷ rs)) (out ps) (or_else found other)
+first_in_more : (r : KeyRange) (rs ps : List KeyRange) (found : Option Bytes) → ArePieces (r ∷ rs) → IsFirstOrNone (holds r) (is_out ps) found
+    → (other : Option Bytes) → IsFirstOrNone (in_ranges rs) (is_out ps) other → IsFirstOrNone (in_ranges (r ∷ rs)) (is_out ps) (or_else found other)
 first_in_more r rs ps (Some key) a first other more = record {
   inside = or_left (holds r key) (in_ranges rs key) first.inside;
   passes = first.passes;
@@ -257,9 +260,9 @@ first_in_more r rs ps None a none (Some key) more = record {
       (λ q. more.least o (sym (ap (λ b. b || in_ranges rs o) q) ∙ h) t);
 }
 
-gap_is : (ranges ps : List KeyRange) → AreSeparate ranges → ArePieces ps → IsFirstOrNone (in_ranges ranges) (out ps) (gap_in ranges ps)
+gap_is : (ranges ps : List KeyRange) → AreSeparate ranges → ArePieces ps → IsFirstOrNone (in_ranges ranges) (is_out ps) (gap_in ranges ps)
 gap_is [] ps s a = λ key h. not_both h refl
-gap_is (r ∷ rs) ps s a = first_in_more r rs ps (outside ps r) (separate_pieces (r ∷ rs) s) (outside_is ps r a s.0) (gap_in rs ps) (gap_is rs ps s.2 a)
+gap_is (r ∷ rs) ps s a = first_in_more r rs ps (outside ps r) (separate_pieces (r ∷ rs) s) (outside_is ps r a) (gap_in rs ps) (gap_is rs ps s.2 a)
 
 -- ---- a piece more
 
@@ -327,7 +330,7 @@ piece_law = record {
 
 -- a piece that may be noted is apart from all that are
 pub may_stay : (one : Noted) (ns : List Noted) → ArePieces (pieces_of ns) → is_backwards one.piece ≡ false → overlap (pieces_of ns) one.piece ≡ None → ArePieces (pieces_of (with_noted one ns))
-may_stay one ns a h o = stay_is one ns a h (subst (IsFirstOrNone (holds one.piece) (in_ranges (pieces_of ns))) o (overlap_is (pieces_of ns) one.piece a h))
+may_stay one ns a h o = stay_is one ns a h (subst (IsFirstOrNone (holds one.piece) (in_ranges (pieces_of ns))) o (overlap_is (pieces_of ns) one.piece a))
 
 abbrev IsNone : Option MapFault → Type 0
 IsNone None = Unit {0}
@@ -347,3 +350,77 @@ pub noted_stay : (ranges : List KeyRange) (inside new : List Noted) (now : Map) 
 noted_stay ranges inside new now one v a h f n =
     let free = no_overlap (outside ranges one.piece) (overlap (pieces_of inside) one.piece) (ap (λ (m : Map). fault_of m one.piece) v ∙ f) in
     subst (λ ns. ArePieces (pieces_of ns)) (sym n) (may_stay one inside a h free)
+
+-- ---- the least keys alone say it
+
+-- two least keys are the same
+first_once : (has test : Bytes → Bool) (a b : Bytes) → IsFirst has test a → IsFirst has test b → a ≡ b
+first_once has test a b h g = neither_below a b (g.least a h.inside h.passes) (h.least b g.inside g.passes)
+
+first_or_none : (has test : Bytes → Bool) (o : Option Bytes) (key : Bytes) → IsFirstOrNone has test o → IsFirst has test key → o ≡ Some key
+first_or_none has test None key none h = not_both h.passes (none key h.inside)
+first_or_none has test (Some k) key first h = ap (λ (x : Bytes). Some x) (first_once has test k key first h)
+
+none_or_first : (has test : Bytes → Bool) (o : Option Bytes) → IsFirstOrNone has test o → ((key : Bytes) → has key ≡ true → test key ≡ false) → o ≡ None
+none_or_first has test None first h = refl
+none_or_first has test (Some k) first h = not_both first.passes (h k first.inside)
+
+from_out : (ps : List KeyRange) (key : Bytes) → is_out ps key ≡ false → in_ranges ps key ≡ true
+from_out ps key h = by (in_ranges ps key) (λ e. e) (λ e. not_both (not_false (in_ranges ps key) e) h)
+
+some_outside : (out held : Option Bytes) (key : Bytes) → unless_inside out held ≡ Some (OutsideRanges key) → out ≡ Some key
+some_outside (Some k) held key e = cc
+some_outside None (Some k) key e = cc
+some_outside None None key e = cc
+
+some_overlap : (out held : Option Bytes) (key : Bytes) → unless_inside out held ≡ Some (Overlap key) → (out ≡ None) × (held ≡ Some key)
+some_overlap (Some k) held key e = cc
+some_overlap None (Some k) key e = (refl, cc)
+some_overlap None None key e = cc
+
+out_first : (m : Map) (piece : KeyRange) → IsMap m → IsFirstOrNone (holds piece) (is_out m.ranges) (outside m.ranges piece)
+out_first m piece i = outside_is m.ranges piece (separate_pieces m.ranges i.ranges)
+
+held_first : (m : Map) (piece : KeyRange) → IsMap m → IsFirstOrNone (holds piece) (in_ranges (pieces_of m.noted)) (overlap (pieces_of m.noted) piece)
+held_first m piece i = overlap_is (pieces_of m.noted) piece i.pieces
+
+gap_first : (m : Map) → IsMap m → IsFirstOrNone (in_ranges m.ranges) (is_out (pieces_of m.noted)) (gap m)
+gap_first m i = gap_is m.ranges (pieces_of m.noted) i.ranges i.pieces
+
+no_outside_from : (m : Map) (piece : KeyRange) → IsMap m → IsInside m piece → outside m.ranges piece ≡ None
+no_outside_from m piece i h = none_or_first (holds piece) (is_out m.ranges) (outside m.ranges piece) (out_first m piece i) (λ key q. not_true (in_ranges m.ranges key) (h key q))
+
+inside_from : (m : Map) (piece : KeyRange) → IsMap m → outside m.ranges piece ≡ None → IsInside m piece
+inside_from m piece i e key q = from_out m.ranges key (subst (IsFirstOrNone (holds piece) (is_out m.ranges)) e (out_first m piece i) key q)
+
+unless : (out held a b : Option Bytes) → out ≡ a → held ≡ b → unless_inside out held ≡ unless_inside a b
+unless out held a b e f = ap (λ o. unless_inside o held) e ∙ ap (unless_inside a) f
+
+pub least_key_law : LeastKeyLaw
+least_key_law = record {
+  outside = λ m piece key i. (
+    (λ e. subst (IsFirstOrNone (holds piece) (is_out m.ranges)) (some_outside (outside m.ranges piece) (overlap (pieces_of m.noted) piece) key e) (out_first m piece i)),
+    (λ h. ap (λ o. unless_inside o (overlap (pieces_of m.noted) piece)) (first_or_none (holds piece) (is_out m.ranges) (outside m.ranges piece) key (out_first m piece i) h)),
+  );
+  held = λ m piece key i. (
+    (λ e.
+        let parts = some_overlap (outside m.ranges piece) (overlap (pieces_of m.noted) piece) key e in
+        (inside_from m piece i parts.0, subst (IsFirstOrNone (holds piece) (in_ranges (pieces_of m.noted))) parts.1 (held_first m piece i))),
+    (λ h. unless (outside m.ranges piece) (overlap (pieces_of m.noted) piece) None (Some key) (no_outside_from m piece i h.0) (first_or_none (holds piece) (in_ranges (pieces_of m.noted)) (overlap (pieces_of m.noted) piece) key (held_first m piece i) h.1)),
+  );
+  free = λ m piece i. (
+    (λ e. (
+      inside_from m piece i (no_outside (outside m.ranges piece) (overlap (pieces_of m.noted) piece) e),
+      subst (IsFirstOrNone (holds piece) (in_ranges (pieces_of m.noted))) (no_overlap (outside m.ranges piece) (overlap (pieces_of m.noted) piece) e) (held_first m piece i),
+    )),
+    (λ h. unless (outside m.ranges piece) (overlap (pieces_of m.noted) piece) None None (no_outside_from m piece i h.0) (none_or_first (holds piece) (in_ranges (pieces_of m.noted)) (overlap (pieces_of m.noted) piece) (held_first m piece i) h.1)),
+  );
+  untiled = λ m key i. (
+    (λ e. subst (IsFirstOrNone (in_ranges m.ranges) (is_out (pieces_of m.noted))) e (gap_first m i)),
+    (λ h. first_or_none (in_ranges m.ranges) (is_out (pieces_of m.noted)) (gap m) key (gap_first m i) h),
+  );
+  tiled = λ m i. (
+    (λ e key q. from_out (pieces_of m.noted) key (subst (IsFirstOrNone (in_ranges m.ranges) (is_out (pieces_of m.noted))) e (gap_first m i) key q)),
+    (λ h. none_or_first (in_ranges m.ranges) (is_out (pieces_of m.noted)) (gap m) (gap_first m i) (λ key q. not_true (in_ranges (pieces_of m.noted) key) (h key q))),
+  );
+}

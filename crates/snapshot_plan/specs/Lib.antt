@@ -1,4 +1,5 @@
 pub mod Pieces
 pub mod Noted
+pub mod Walks
 pub mod Laws
 pub mod Listing

@@ -6,7 +6,7 @@ use Rattle.fb_bytes.specs.Options.{IsIn}
 use Rattle.manifests.specs.declared.Manifest.{Manifest}
 use Rattle.manifests.specs.Files.{version_of}
 use Rattle.manifests.specs.Grammar.{IsWhole}
-use Rattle.snapshot_plan.specs.Noted.{Noted, most_bytes}
+use Rattle.snapshot_plan.specs.Noted.{Noted}
 
 -- the names of the noted files
 abbrev pub noted_names : List Noted → List Bytes
@@ -55,8 +55,7 @@ AreDistinct (name ∷ names) = IsNew name names × AreDistinct names
 abbrev pub HaveRangeNames : List Noted → Type 0
 HaveRangeNames noted = AllByRecursion (λ n. version_of n.file.name ≡ Some n.file.version) noted
 
--- the manifest can be written, and has a name
+-- the manifest can be written, and has a name where its bytes fit one
 pub record IsWritable (manifest : Manifest) : Type 0 where
   pub whole : IsWhole manifest
   pub ordered : manifest.begin ≤ manifest.end
-  pub fits : manifest.bytes ≤ most_bytes

@@ -1,8 +1,9 @@
 -- Pieces of ranges of keys, and the least key that a list of them leaves out or holds.
-use Rattle.std.specs.Prelude.{◌≡◌, Bool, true, false, ◌&&◌, List, [], ◌∷◌, Option, Some, None, if◌then◌else◌}
+use Rattle.std.specs.Prelude.{◌≡◌, Bool, true, false, List, [], ◌∷◌, Option, Some, None, if◌then◌else◌}
 use Rattle.fb_bytes.specs.Bytes.{Bytes, is_below}
 use Rattle.fb_bytes.specs.declared.KeyRange.{KeyRange}
 use Rattle.fb_bytes.specs.Keys.{holds, is_backwards}
+pub use Rattle.fb_bytes.specs.Keys.{overlaps}
 
 -- the next piece, if there is one, begins at this key or past it
 abbrev pub BeginFrom : Bytes → List KeyRange → Type 0
@@ -17,18 +18,16 @@ ArePieces (piece ∷ pieces) = (is_backwards piece ≡ false) × BeginFrom piece
 -- the key itself, or where the pieces that hold it, one behind the other, end
 abbrev pub covered_from : List KeyRange → Bytes → Bytes
 covered_from [] key = key
-covered_from (piece ∷ pieces) key = if holds piece key then covered_from pieces piece.end else covered_from pieces key
+covered_from (piece ∷ pieces) key =
+    if holds piece key then covered_from pieces piece.end else covered_from pieces key
 
+-- the key, where it is before the end
 abbrev pub if_below : Bytes → Bytes → Option Bytes
 if_below key end = if is_below key end then Some key else None
 
 -- the least key of the range that no piece holds
 abbrev pub outside : List KeyRange → KeyRange → Option Bytes
 outside pieces range = if_below (covered_from pieces range.begin) range.end
-
--- the two have a key in common
-abbrev pub overlaps : KeyRange → KeyRange → Bool
-overlaps a b = is_below a.begin b.end && is_below b.begin a.end
 
 -- the later of two keys
 abbrev pub later : Bytes → Bytes → Bytes
@@ -37,8 +36,10 @@ later a b = if is_below a b then b else a
 -- the least key of the range that some piece holds
 abbrev pub overlap : List KeyRange → KeyRange → Option Bytes
 overlap [] range = None
-overlap (piece ∷ pieces) range = if overlaps piece range then Some (later piece.begin range.begin) else overlap pieces range
+overlap (piece ∷ pieces) range =
+    if overlaps piece range then if_below (later piece.begin range.begin) range.end else overlap pieces range
 
+-- the first of two keys that is there
 abbrev pub or_else : Option Bytes → Option Bytes → Option Bytes
 or_else None other = other
 or_else (Some key) other = Some key
@@ -54,6 +55,7 @@ pub record IsFirst (has test : Bytes → Bool) (key : Bytes) : Type 0 where
   pub passes : test key ≡ true
   pub least : (other : Bytes) → has other ≡ true → test other ≡ true → is_below other key ≡ false
 
+-- the first of them, where there is one
 abbrev pub IsFirstOrNone : (Bytes → Bool) → (Bytes → Bool) → Option Bytes → Type 0
 IsFirstOrNone has test None = (key : Bytes) → has key ≡ true → test key ≡ false
 IsFirstOrNone has test (Some key) = IsFirst has test key

@@ -1,13 +1,13 @@
-ghost use Rattle.std.specs.Prelude.{◌≡◌, [], position, false, Some, None, not, IfOk, IfErr, OnOk, OnErr, MatchOption, option_map, ◌⊎◌};
-ghost use Rattle.std.specs.List.{position_or_len};
+ghost use Rattle.std.specs.Prelude.{◌≡◌, ◌≤◌, ◌<◌, [], Some, None, IfOk, IfErr, IfSome, slice_get, OnOk, OnErr, option_map, ◌⊎◌};
+ghost use Rattle.std.specs.List.{prefix_len};
 ghost use Rattle.fb_bytes.specs.Bytes.{is_below};
-ghost use Rattle.fb_bytes.specs.Keys.{is_backwards};
+ghost use Rattle.snapshot_plan.specs.Listing.{noted_names};
 ghost use Rattle.snapshot_plan.specs.Noted as spec;
 ghost use Rattle.snapshot_plan.specs.Pieces.{ArePieces};
 
 use crate::MapFault;
 use crate::pieces::{gap_in, outside, overlap};
-use fb_bytes::{Blob, KeyRange, Names, Ranges, Text, is_below};
+use fb_bytes::{Blob, KeyRange, Names, Ranges, Text, is_below, is_same};
 use manifests::Manifest;
 use std::alloc::{AllocError, Global};
 use std::marker::Model;
@@ -30,7 +30,6 @@ pub struct Noted {
 /// The pieces of a job's ranges that are done in a snapshot, each with its file.
 #[derive(Debug, Drop)]
 pub struct FileMap {
-    alloc: Global,
     ranges: Ranges,
     noted: Vec<Noted>,
 }
@@ -53,7 +52,6 @@ impl FileMap {
     {
         let ranges = ranges.copy()?;
         Ok(FileMap {
-            alloc,
             ranges,
             noted: Vec::new(alloc),
         })
@@ -65,27 +63,39 @@ impl FileMap {
         ensures err { IfErr result (λ fault. (fault ≡ MapFault.NoMemory) ⊎ (spec.fault_of self.now piece.now ≡ Some fault)) }
     {
         if let Some(key) = outside(self.ranges.as_slice(), piece) {
-            let key = Blob::from_slice(self.alloc, key)?;
+            let key = Blob::from_slice(self.alloc(), key)?;
             return Err(MapFault::OutsideRanges { key });
         }
         if let Some(key) = overlap(&self.noted, piece) {
-            let key = Blob::from_slice(self.alloc, key)?;
+            let key = Blob::from_slice(self.alloc(), key)?;
             return Err(MapFault::Overlap { key });
         }
         Ok(())
     }
 
-    /// Notes the file of a piece.
+    /// Notes the file of a piece. Of a piece without keys nothing is to be noted.
     pub fn done(&mut self, piece: KeyRange, file: Done) -> Result<(), MapFault>
-        requires { is_backwards piece ≡ false }
         ensures ok { OnOk result (spec.fault_of self.old piece ≡ None) }
         ensures err { IfErr result (λ fault. (fault ≡ MapFault.NoMemory) ⊎ (spec.fault_of self.old piece ≡ Some fault)) }
-        ensures noted { OnOk result (self.new ≡ record self.old { noted = spec.with_noted (record { piece = piece; file = file }) self.old.noted }) }
+        ensures noted { OnOk result (self.new ≡ record self.old { noted = spec.with_done (record { piece = piece; file = file }) self.old.noted }) }
         ensures refused { OnErr result (self.new ≡ self.old) }
     {
         self.check(&piece)?;
+        if piece.is_backwards() {
+            return Ok(());
+        }
         insert_noted(&mut self.noted, Noted { piece, file })?;
         Ok(())
+    }
+
+    /// Takes back the piece that begins at the key, where one was noted. It takes no memory.
+    pub fn take_back(&mut self, begin: &[u8])
+        ensures { self.new ≡ record self.old { noted = spec.without begin.now self.old.noted } }
+    {
+        let place = place_of(&self.noted, begin);
+        if begins_at(&self.noted, place, begin) {
+            self.noted.remove(place);
+        }
     }
 
     /// The least key of the ranges that no noted piece holds. None exactly where the pieces tile the
@@ -96,30 +106,39 @@ impl FileMap {
         match gap_in(self.ranges.as_slice(), &self.noted) {
             None => Ok(None),
             Some(key) => {
-                let key = Blob::from_slice(self.alloc, key)?;
+                let key = Blob::from_slice(self.alloc(), key)?;
                 Ok(Some(key))
             }
         }
     }
 
-    /// The manifest of the noted files, once they tile the ranges.
+    /// The manifest of the noted files, once they tile the ranges. More bytes than a name has room for
+    /// are want of memory.
     pub fn manifest(&self) -> Result<Manifest, MapFault>
         ensures ok { IfOk result (λ manifest. (spec.gap self.now ≡ None) × (manifest ≡ spec.manifest_of self.now.noted)) }
+        ensures fits { IfOk result (λ manifest. manifest.bytes ≤ spec.most_bytes) }
         ensures err { IfErr result (λ fault. (fault ≡ MapFault.NoMemory) ⊎ (option_map (λ key. MapFault.Untiled key) (spec.gap self.now) ≡ Some fault)) }
     {
         let gap = self.gap()?;
         if let Some(key) = gap {
             return Err(MapFault::Untiled { key });
         }
-        let files = names_of(self.alloc, &self.noted)?;
+        let Some(bytes) = bytes_of(&self.noted) else {
+            return Err(MapFault::NoMemory);
+        };
+        let files = names_of(self.alloc(), &self.noted)?;
         let (begin, end) = span_of(&self.noted);
-        let bytes = bytes_of(&self.noted);
         Ok(Manifest {
             begin,
             end,
             files,
             bytes,
         })
+    }
+
+    // The allocator of its list.
+    fn alloc(&self) -> Global {
+        *self.noted.allocator()
     }
 
     /// The ranges of the job.
@@ -149,16 +168,12 @@ impl FileMap {
         ensures { IfOk result (λ map. map ≡ self.now) }
     {
         let ranges = self.ranges.copy()?;
-        let mut noted = Vec::new(self.alloc);
+        let mut noted = Vec::new(self.alloc());
         for one in &self.noted {
             let one = one.copy()?;
             noted.push(one)?;
         }
-        Ok(FileMap {
-            alloc: self.alloc,
-            ranges,
-            noted,
-        })
+        Ok(FileMap { ranges, noted })
     }
 }
 
@@ -189,6 +204,7 @@ impl Done {
 
 /// Puts a noted piece where it belongs in key order.
 fn insert_noted(noted: &mut Vec<Noted>, one: Noted) -> Result<(), AllocError>
+    requires { ArePieces (spec.pieces_of noted.old.items) }
     ensures ok { OnOk result (noted.new.items ≡ spec.with_noted one noted.old.items) }
     ensures err { OnErr result (noted.new.items ≡ noted.old.items) }
 {
@@ -197,54 +213,40 @@ fn insert_noted(noted: &mut Vec<Noted>, one: Noted) -> Result<(), AllocError>
     Ok(())
 }
 
-// The place of the first piece that doesn't begin before the key.
+// How many noted pieces begin before the key.
 fn place_of(noted: &[Noted], key: &[u8]) -> usize
-    ensures { result ≡ position_or_len (λ one. not (is_below one.piece.begin key.now)) noted.now }
+    requires { ArePieces (spec.pieces_of noted.now) }
+    ensures { result ≡ prefix_len (λ one. is_below one.piece.begin key.now) noted.now }
 {
-    first_from(noted, key).unwrap_or(noted.len())
+    noted.partition_point(|one| is_below(one.piece.begin.as_slice(), key))
 }
 
-// The first place whose piece doesn't begin before the key.
-fn first_from(noted: &[Noted], key: &[u8]) -> Option<usize>
-    ensures { result ≡ position (λ one. not (is_below one.piece.begin key.now)) noted.now }
+// Whether there is a piece at the place, and it begins at the key.
+fn begins_at(noted: &[Noted], place: usize, key: &[u8]) -> bool
+    ensures { result ≡ spec.begins_at key.now (slice_get noted.now place) }
 {
-    noted
-        .iter()
-        .position(|one| !is_below(one.piece.begin.as_slice(), key))
+    place < noted.len() && is_same(noted[place].piece.begin.as_slice(), key)
 }
 
 /// The files' names in byte order.
 fn names_of(alloc: Global, noted: &[Noted]) -> Result<Names, AllocError>
     ensures { IfOk result (λ names. names ≡ spec.names_of [] noted.now) }
 {
-    let mut names = Vec::new(alloc);
-    'noted: for one in noted {
-        let name = one.file.name.copy()?;
-        add_name(&mut names, name)?;
-    }
+    let mut names = file_names(alloc, noted)?;
+    names.sort()?;
     Ok(Names::from_vec(names))
 }
 
-/// Puts a name where it belongs in byte order.
-fn add_name(names: &mut Vec<Text>, name: Text) -> Result<(), AllocError>
-    ensures { OnOk result (names.new.items ≡ spec.with_name name names.old.items) }
+// Copies of the files' names.
+fn file_names(alloc: Global, noted: &[Noted]) -> Result<Vec<Text>, AllocError>
+    ensures { IfOk result (λ names. names.items ≡ noted_names noted.now) }
 {
-    let at = name_place(names, name.as_bytes());
-    names.insert(at, name)?;
-    Ok(())
-}
-
-// The place of the first name that isn't below this one.
-fn name_place(names: &[Text], name: &[u8]) -> usize
-    ensures { result ≡ position_or_len (λ one. not (is_below one name.now)) names.now }
-{
-    first_name_from(names, name).unwrap_or(names.len())
-}
-
-fn first_name_from(names: &[Text], name: &[u8]) -> Option<usize>
-    ensures { result ≡ position (λ one. not (is_below one name.now)) names.now }
-{
-    names.iter().position(|one| !is_below(one.as_bytes(), name))
+    let mut names = Vec::new(alloc);
+    'noted: for one in noted {
+        let name = one.file.name.copy()?;
+        names.push(name)?;
+    }
+    Ok(names)
 }
 
 /// The least and the greatest version of the files; 0 without files.
@@ -284,13 +286,18 @@ fn greatest_of(first: u64, rest: &[Noted]) -> u64
 /// The greatest number in a name.
 const MOST: u64 = (1 << 63) - 1;
 
-/// The bytes of all files, up to the greatest number in a name, which no memory reaches.
-fn bytes_of(noted: &[Noted]) -> u64
-    ensures { result ≡ spec.bytes_of 0 noted.now }
+/// The bytes of all files, where they are no more than a name has room for.
+fn bytes_of(noted: &[Noted]) -> Option<u64>
+    ensures total { IfSome result (λ bytes. bytes ≡ spec.bytes_of 0 noted.now) }
+    ensures fits { IfSome result (λ bytes. bytes ≤ spec.most_bytes) }
+    ensures past { result ≡ None → spec.most_bytes < spec.bytes_of 0 noted.now }
 {
     let mut bytes: u64 = 0;
     'noted: for one in noted {
-        bytes = MOST.min(bytes.saturating_add(one.file.bytes));
+        if one.file.bytes > MOST - bytes {
+            return None;
+        }
+        bytes += one.file.bytes;
     }
-    bytes
+    Some(bytes)
 }

@@ -1,8 +1,19 @@
-ghost use Rattle.snapshot_plan.specs.Laws.{PieceLaw, ManifestLaw, WholeLaw};
+ghost use Rattle.snapshot_plan.specs.Laws.{LeastKeyLaw, PieceLaw, TakeBackLaw, ManifestLaw, WholeLaw};
 
 /// Law: the least key outside pieces, the least key that they hold, and what a piece more leaves.
 pub fn piece_law()
     ensures { PieceLaw }
+{}
+
+/// Law: a piece is refused for the least of its keys that is outside the ranges, else for the least that
+/// is held, and what is left begins at the least key that no piece holds.
+pub fn least_key_law()
+    ensures { LeastKeyLaw }
+{}
+
+/// Law: a piece that was noted and is taken back leaves what was noted before.
+pub fn take_back_law()
+    ensures { TakeBackLaw }
 {}
 
 /// Law: the manifest of noted files has their least and their greatest version, their names in byte

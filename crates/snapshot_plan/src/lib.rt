@@ -8,7 +8,7 @@ mod pieces;
 
 pub use fault::MapFault;
 pub use file_map::{Done, FileMap, Noted};
-pub use laws::{manifest_law, piece_law, whole_law};
+pub use laws::{least_key_law, manifest_law, piece_law, take_back_law, whole_law};
 
 #[cfg(test)]
 mod tests;

@@ -85,7 +85,7 @@ impl Tuple {
     pub fn copy(&self) -> Result<Self, AllocError>
         ensures { IfOk result (λ tuple. tuple ≡ self.now) }
     {
-        let mut elements = Vec::new(*self.elements.allocator());
+        let mut elements = Vec::with_capacity(*self.elements.allocator(), self.elements.len())?;
         for element in &self.elements {
             let element = element.copy()?;
             elements.push(element)?;

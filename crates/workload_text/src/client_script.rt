@@ -1,4 +1,4 @@
-use fb_bytes::{Seq, TryCopy};
+use fb_bytes::{SharedSeq, TryCopy};
 use mutations::TxOps;
 use std::alloc::AllocError;
 
@@ -9,13 +9,13 @@ pub enum Side {
     Dst,
 }
 
-/// What a client does: its transactions, one after another.
+/// What a client does: its transactions, one after another. Copies share them.
 #[derive(Debug, Drop)]
 pub struct ClientScript {
     /// Clients are numbered from 1.
     pub number: u32,
     pub side: Side,
-    pub txns: Seq<TxOps>,
+    pub txns: SharedSeq<TxOps>,
 }
 
 impl TryCopy for ClientScript {

@@ -12,7 +12,7 @@ ghost use Rattle.workload_text.specs.Reader.{IsReady};
 use crate::line::Line;
 use crate::{ClientScript, Command, ScheduleLine, Settings, Side, TextFault, Workload};
 use block_frame::Profile;
-use fb_bytes::Seq;
+use fb_bytes::{Seq, SharedSeq};
 use mutations::{TxOp, TxOps, fault_of};
 use std::alloc::{AllocError, Global};
 use std::mem;
@@ -185,6 +185,7 @@ impl Reader {
         if is_refused(self.block, &self.ops) {
             return Err(TextFault::NotBuilt { line });
         }
+        self.ops.shrink_to_fit();
         let ops = mem::replace(&mut self.ops, TxOps::new(alloc));
         self.txns.push(ops)?;
         self.place = Place::Client;
@@ -216,6 +217,8 @@ impl Reader {
             ..
         } = self;
         let clients = clients(alloc, client, txns)?;
+        let operator = SharedSeq::from_vec(operator.into_vec())?;
+        let schedule = SharedSeq::from_vec(schedule.into_vec())?;
         let settings = Settings { block, pace: PACE };
         Ok(Workload {
             settings,
@@ -265,6 +268,7 @@ fn clients(
 {
     let mut clients = Seq::new(alloc);
     if let Some(side) = client {
+        let txns = SharedSeq::from_vec(txns.into_vec())?;
         clients.push(ClientScript {
             number: 1,
             side,

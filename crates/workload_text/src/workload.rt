@@ -4,18 +4,18 @@ ghost use Rattle.workload_text.specs.Scripts.{are_numbered};
 ghost use Rattle.workload_text.specs.Commands.{IsCommand, IsCommand-prop};
 
 use crate::{ClientScript, Command, ScheduleLine, Settings};
-use fb_bytes::{Seq, TryCopy};
+use fb_bytes::{Seq, SharedSeq, TryCopy};
 use std::alloc::AllocError;
 
-/// What a run plays.
+/// What a run plays. Copies share its lists.
 #[derive(Debug, Drop)]
 pub struct Workload {
     pub settings: Settings,
     /// In the order of their numbers.
     pub clients: Seq<ClientScript>,
     /// In their order.
-    pub operator: Seq<Command>,
-    pub schedule: Seq<ScheduleLine>,
+    pub operator: SharedSeq<Command>,
+    pub schedule: SharedSeq<ScheduleLine>,
     pub ghost numbered: { are_numbered 1 clients ≡ true },
     pub ghost operator_allowed: { AllByRecursion (IsCommand settings.block) operator } by { AllByRecursion-prop (IsCommand settings.block) (IsCommand-prop settings.block) operator },
 }

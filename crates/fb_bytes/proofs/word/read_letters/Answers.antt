@@ -2,7 +2,7 @@ use Rattle.std.proofs.Common.{rules, ◌≡◌, ℕ, true, false, length-drop, i
 use Rattle.std.proofs.lemmas.List.{take_rest}
 use Rattle.fb_bytes.specs.Bytes.{is_same}
 use Rattle.fb_bytes.specs.Words.{empty_word}
-use Rattle.fb_bytes.proofs.Letters.{read_started, read_goes_on, read_stops, read_ends, read_empty}
+use Rattle.fb_bytes.proofs.Letters.{read_plain, read_started, read_goes_on, read_stops, read_ends, read_empty}
 use Rattle.fb_bytes.proofs.word.read_letters.Goals as goal
 
 pub letters-init : goal.letters-init
@@ -37,4 +37,9 @@ pub returns-clause-ok : goal.returns-clause-ok
 returns-clause-ok c =
     let s : is_same c.args.word.now empty_word ≡ false = sym c.is_same.ensures ∙ c.if-is_same.false in
     read_ends c.args.word.now c.letters.bytes.items c.letters.at (search rules) s c.letters-test.false c.letters.invariant.same
-    ∙ ap Ok (sym c.from_vec.ensures)
+    ∙ ap Ok (sym (c.in_ok-from_slice-2.ensures ∙ c.deref.ensures.value))
+
+pub returns-then-are_plain-clause-ok : goal.returns-then-are_plain-clause-ok
+returns-then-are_plain-clause-ok c =
+    let s : is_same c.args.word.now empty_word ≡ false = sym c.is_same.ensures ∙ c.if-is_same.false in
+    read_plain c.args.word.now s (sym c.are_plain.ensures ∙ c.if-are_plain.true) (search rules) ∙ ap Ok (sym c.in_ok-from_slice.ensures)

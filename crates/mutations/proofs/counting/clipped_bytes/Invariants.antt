@@ -1,7 +1,7 @@
-use Rattle.std.proofs.Common.{◌≡◌, ◌-◌, ◌^◌, min, length, take}
+use Rattle.std.proofs.Common.{◌≡◌, take}
 use Rattle.mutations.specs.Clipping.{all_clipped}
-use Rattle.mutations.specs.Spelling.{mutations_spelling}
+use Rattle.mutations.specs.Spelling.{counted_bytes}
 use Rattle.mutations.proofs.counting.clipped_bytes.Given as goal
 
 abbrev pub invariant-loop-mutation : goal.invariant-loop-mutation
-invariant-loop-mutation l = l.total ≡ min (length (mutations_spelling (all_clipped l.ranges (take l.mutation-index l.muts)))) (2 ^ 128 - 1)
+invariant-loop-mutation l = l.total ≡ counted_bytes (all_clipped l.ranges (take l.mutation-index l.muts))

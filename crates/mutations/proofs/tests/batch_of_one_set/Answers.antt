@@ -11,4 +11,4 @@ one_set =
     record { few = omega (arith, length_one m, length-mutation m); forward = (tt, tt) }
 
 pub encode_batch-requires : goal.encode_batch-requires
-encode_batch-requires g c = rw (c.in_ok-push.ensures.ok, c.new-muts.ensures, c.in_ok-set.ensures) one_set
+encode_batch-requires g c = rw c.in_ok-muts.ensures one_set

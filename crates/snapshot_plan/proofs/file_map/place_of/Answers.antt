@@ -1,9 +1,10 @@
-use Rattle.std.proofs.Common.{length, ap, ◌∙◌}
-use Rattle.std.specs.Option.{unwrap_or}
+use Rattle.std.proofs.Common.{rules}
+use Rattle.std.proofs.lemmas.List.Sorted.{IsPartitionPoint-from_clause}
 use Rattle.fb_bytes.specs.Bytes.{is_below}
-use Rattle.snapshot_plan.proofs.Placing.{place_or_end}
+use Rattle.snapshot_plan.proofs.Placing.{halved, begins_parted}
 use Rattle.snapshot_plan.proofs.file_map.place_of.Goals as goal
 
 pub returns : goal.returns
 returns c =
-    c.unwrap_or.ensures ∙ ap (λ o. unwrap_or o (length c.args.noted.now)) c.first_from.ensures ∙ place_or_end (λ one. is_below one.piece.begin c.args.key.now) c.args.noted.now
+    halved (λ n. is_below n.piece.begin c.args.key.now) c.args.noted.now c.partition_point.result c.partition_point.ensures.bound
+    (IsPartitionPoint-from_clause (λ n. is_below n.piece.begin c.args.key.now) c.args.noted.now c.partition_point.result c.partition_point.ensures.partitioned (begins_parted c.args.key.now c.args.noted.now c.requires) (λ a r f' k. search rules))
