@@ -1,5 +1,6 @@
 -- What the operator's commands do.
-use Rattle.std.specs.Prelude.{ℕ, ◌+◌, Bool, false, not, List, [], ◌∷◌, ◌++◌, length, Option, Some, None, Ok, Err, option_map, nat_lt, if◌then◌else◌}
+use Rattle.std.specs.Prelude.{ℕ, ◌+◌, Bool, false, not, List, [], ◌∷◌, ◌++◌, length, Option, Some}
+use Rattle.std.specs.Prelude.{None, Ok, Err, option_map, nat_lt, if◌then◌else◌}
 use Rattle.fb_bytes.specs.Bytes.{Bytes}
 use Rattle.fb_bytes.specs.declared.KeyRange.{KeyRange}
 use Rattle.fb_outside.specs.declared.File.{File}
@@ -11,186 +12,250 @@ use Rattle.container_view.specs.Files.{whole_name}
 use Rattle.container_view.specs.Names.{names_inside}
 use Rattle.snapshot_plan.specs.Noted.{pieces_of, gap, manifest_of}
 use Rattle.snapshot_plan.specs.Pieces.{outside, overlap}
+use Rattle.snapshot_plan.specs.declared.Done as plans
 use Rattle.database.specs.Commits.{most_version}
 use Rattle.database.specs.Dumps.{pairs_at}
-use Rattle.backup_core.specs.Hand.{opened, range_name, log_name, manifest_name, text_of, dumped, cut_to, sealed, aborted_job}
+use Rattle.backup_core.specs.Hand.{opened, range_name, log_name, manifest_name, text_of, dumped}
+use Rattle.backup_core.specs.Hand.{cut_to, sealed, aborted_job}
 use Rattle.workload_text.specs.declared.Side.{Side}
 use Rattle.workload_text.specs.declared.Settings.{Settings}
 use Rattle.workload_text.specs.declared.Command.{Command}
 use Rattle.workload_text.specs.declared.Command.TheVariants as commands
-use Rattle.cluster_core.specs.declared.event.Answer.TheVariants.{Nothing, Done, Placed, Refused, State}
-use Rattle.cluster_core.specs.declared.event.StepFault.TheVariants.{VaultFault, VersionsSpent, NoMemory}
+use Rattle.cluster_core.specs.declared.event.Answer.TheVariants.{Nothing, Done, Placed, Refused}
+use Rattle.cluster_core.specs.declared.event.Answer.TheVariants.{State}
+use Rattle.cluster_core.specs.declared.event.StepFault.TheVariants.{VaultFault, VersionsSpent}
+use Rattle.cluster_core.specs.declared.event.StepFault.TheVariants.{NoMemory}
 use Rattle.cluster_core.specs.declared.refusal.Refusal.{Refusal}
-use Rattle.cluster_core.specs.declared.refusal.Refusal.TheVariants.{TagBusy, ContainerTaken, ContainerInUse, NoJob, WrongState, OutsideRanges, Overlap, NothingNew, Untiled}
+use Rattle.cluster_core.specs.declared.refusal.Refusal.TheVariants.{TagBusy, ContainerTaken}
+use Rattle.cluster_core.specs.declared.refusal.Refusal.TheVariants.{ContainerInUse, NoJob}
+use Rattle.cluster_core.specs.declared.refusal.Refusal.TheVariants.{WrongState, OutsideRanges}
+use Rattle.cluster_core.specs.declared.refusal.Refusal.TheVariants.{Overlap, NothingNew, Untiled}
 use Rattle.cluster_core.specs.Jobs.{Job, Found, newest, started_in, state_of_job}
-use Rattle.cluster_core.specs.State as state
+use Rattle.cluster_core.specs.State as machine
 use Rattle.cluster_core.specs.State.{history_on, with_job, with_put}
 use Rattle.cluster_core.specs.Moves.{Luck, Fine, FailsOld, FailsNew, Starved, Moved, moved}
 
 -- The operator goes on to the next command.
-abbrev pub gone_on : state.State → state.State
-gone_on w = record w { place = w.place + 1 }
+abbrev pub gone_on : machine.State → machine.State
+gone_on state = record state { place = state.place + 1 }
 
-abbrev pub refuses : Refusal → state.State → Moved
-refuses refusal w = moved (Ok (Refused refusal)) (gone_on w)
+abbrev pub refuses : Refusal → machine.State → Moved
+refuses refusal state = moved (Ok (Refused refusal)) (gone_on state)
 
-abbrev pub done : state.State → Moved
-done w = moved (Ok Done) (gone_on w)
+abbrev pub done : machine.State → Moved
+done state = moved (Ok Done) (gone_on state)
 
 -- ---- open
 
 abbrev pub new_job : Bytes → Side → Bytes → List KeyRange → ℕ → Job
-new_job tag side container ranges version = record { tag = tag; side = side; container = container; hand = opened ranges version }
+new_job tag side container ranges version =
+    record { tag = tag; side = side; container = container; hand = opened ranges version }
+
+-- the state once a job was started, whose log begins at the version that was taken
+abbrev pub started : Settings → machine.State → Job → Moved
+started settings state job =
+    done (record state { time = state.time + settings.pace; jobs = state.jobs ++ job ∷ [] })
 
 -- A version is taken, and the job's log begins there.
-abbrev pub starts : Settings → state.State → Bytes → Side → Bytes → List KeyRange → Moved
-starts s w tag side container ranges =
-    if nat_lt most_version (w.time + s.pace) then moved (Err (VersionsSpent w.time)) w
-    else done (record w { time = w.time + s.pace; jobs = w.jobs ++ new_job tag side container ranges (w.time + s.pace) ∷ [] })
+abbrev pub starts : Settings → machine.State → Bytes → Side → Bytes → List KeyRange → Moved
+starts settings state tag side container ranges =
+    if nat_lt most_version (state.time + settings.pace)
+    then moved (Err (VersionsSpent state.time)) state
+    else started settings state (new_job tag side container ranges (state.time + settings.pace))
 
--- the names of a container's files that a list gives: those that there are, where the store tells its files
+-- the names of a container's files that a list gives: those that there are, where the store tells
+-- its files
 abbrev pub names_listed : Bytes → Option (List File) → List Bytes → List Bytes
 names_listed container None said = said
 names_listed container (Some files) said = names_inside container files
 
-abbrev pub open_over : Settings → state.State → Bytes → Side → Bytes → List KeyRange → List Bytes → Moved
-open_over s w tag side container ranges [] = starts s w tag side container ranges
-open_over s w tag side container ranges (name ∷ names) = refuses (ContainerInUse name) w
+abbrev pub open_over : Settings → machine.State → Bytes → Side → Bytes → List KeyRange → List Bytes
+    → Moved
+open_over settings state tag side container ranges [] =
+    starts settings state tag side container ranges
+open_over settings state tag side container ranges (name ∷ names) =
+    refuses (ContainerInUse name) state
 
 -- The container's folder is listed, and has to be empty.
-abbrev pub open_listed : Settings → state.State → Bytes → Side → Bytes → List KeyRange → Luck → Moved
-open_listed s w tag side container ranges (Fine said) = open_over s w tag side container ranges (names_listed container w.files said)
-open_listed s w tag side container ranges FailsOld = moved (Err VaultFault) w
-open_listed s w tag side container ranges FailsNew = moved (Err VaultFault) w
-open_listed s w tag side container ranges Starved = moved (Err NoMemory) w
+abbrev pub open_listed : Settings → machine.State → Bytes → Side → Bytes → List KeyRange → Luck
+    → Moved
+open_listed settings state tag side container ranges (Fine said) =
+    open_over settings state tag side container ranges (names_listed container state.files said)
+open_listed settings state tag side container ranges FailsOld = moved (Err VaultFault) state
+open_listed settings state tag side container ranges FailsNew = moved (Err VaultFault) state
+open_listed settings state tag side container ranges Starved = moved (Err NoMemory) state
 
-abbrev pub open_untaken : Settings → state.State → Bytes → Side → Bytes → List KeyRange → Luck → Option Job → Moved
-open_untaken s w tag side container ranges luck (Some job) = refuses (ContainerTaken job.tag) w
-open_untaken s w tag side container ranges luck None = open_listed s w tag side container ranges luck
+abbrev pub open_untaken : Settings → machine.State → Bytes → Side → Bytes → List KeyRange → Luck
+    → Option Job → Moved
+open_untaken settings state tag side container ranges luck (Some job) =
+    refuses (ContainerTaken job.tag) state
+open_untaken settings state tag side container ranges luck None =
+    open_listed settings state tag side container ranges luck
 
 -- the job that was found hasn't ended
 abbrev pub is_busy : Option Found → Bool
 is_busy None = false
 is_busy (Some found) = not found.job.hand.aborted
 
-abbrev pub open_job : Settings → state.State → Bytes → Side → Bytes → List KeyRange → Luck → Moved
-open_job s w tag side container ranges luck =
-    if is_busy (newest tag w.jobs) then refuses (TagBusy tag) w
-    else open_untaken s w tag side container ranges luck (started_in container w.jobs)
+abbrev pub open_job : Settings → machine.State → Bytes → Side → Bytes → List KeyRange → Luck → Moved
+open_job settings state tag side container ranges luck =
+    if is_busy (newest tag state.jobs) then refuses (TagBusy tag) state
+    else open_untaken settings state tag side container ranges luck
+    (started_in container state.jobs)
 
 -- ---- a put of a file
 
--- A file of the container is put. A failing put leaves the old files or the new ones, and the operator stays at its command; once it is done the ticket is used up.
-abbrev pub puts : state.State → Bytes → Bytes → state.State → Luck → Moved
-puts w whole bytes after (Fine said) = moved (Ok (Placed whole)) (record (gone_on after) { files = with_put whole bytes w.files; tickets = w.tickets + 1 })
-puts w whole bytes after FailsOld = moved (Err VaultFault) w
-puts w whole bytes after FailsNew = moved (Err VaultFault) (record w { files = with_put whole bytes w.files })
-puts w whole bytes after Starved = moved (Err NoMemory) w
+-- A file of the container is put. A failing put leaves the old files or the new ones, and the
+-- operator stays at its command; once it is done the ticket is used up.
+abbrev pub puts : machine.State → Bytes → Bytes → machine.State → Luck → Moved
+puts state whole bytes after (Fine said) =
+    moved (Ok (Placed whole))
+    (record (gone_on after)
+    { files = with_put whole bytes state.files; tickets = state.tickets + 1 })
+puts state whole bytes after FailsOld = moved (Err VaultFault) state
+puts state whole bytes after FailsNew =
+    moved (Err VaultFault) (record state { files = with_put whole bytes state.files })
+puts state whole bytes after Starved = moved (Err NoMemory) state
 
 -- tickets go as far as versions
-abbrev pub putting : state.State → Bytes → Bytes → state.State → Luck → Moved
-putting w whole bytes after luck = if nat_lt most_version w.tickets then moved (Err NoMemory) w else puts w whole bytes after luck
+abbrev pub putting : machine.State → Bytes → Bytes → machine.State → Luck → Moved
+putting state whole bytes after luck =
+    if nat_lt most_version state.tickets then moved (Err NoMemory) state
+    else puts state whole bytes after luck
 
 -- ---- dump
 
 -- the range file of a piece of a side's database, as it is now
-abbrev pub piece_bytes : Settings → state.State → Side → KeyRange → Bytes
-piece_bytes s w side piece = range_text s.block piece.begin piece.end (pairs_at s.block (history_on side w) w.time piece)
+abbrev pub piece_bytes : Settings → machine.State → Side → KeyRange → Bytes
+piece_bytes settings state side piece =
+    range_text settings.block piece.begin piece.end
+    (pairs_at settings.block (history_on side state) state.time piece)
 
-abbrev pub dump_bytes : Settings → state.State → Job → KeyRange → Bytes
-dump_bytes s w job piece = piece_bytes s w job.side piece
+abbrev pub dump_bytes : Settings → machine.State → Job → KeyRange → Bytes
+dump_bytes settings state job piece = piece_bytes settings state job.side piece
 
-abbrev pub dump_name : Settings → state.State → Job → Bytes
-dump_name s w job = text_of (range_name job.hand w.time w.tickets s.block)
+abbrev pub dump_name : Settings → machine.State → Job → Bytes
+dump_name settings state job = text_of (range_name job.hand state.time state.tickets settings.block)
+
+-- what a manifest will say of the range file of a piece
+abbrev pub dump_done : Settings → machine.State → Job → KeyRange → plans.Done
+dump_done settings state job piece =
+    record {
+      name = dump_name settings state job;
+      version = state.time;
+      bytes = length (dump_bytes settings state job piece);
+    }
 
 -- the job once the piece was dumped
-abbrev pub with_dump : Settings → state.State → Job → KeyRange → Job
-with_dump s w job piece = record job { hand = dumped job.hand piece w.time (record { name = dump_name s w job; version = w.time; bytes = length (dump_bytes s w job piece) }) }
+abbrev pub with_dump : Settings → machine.State → Job → KeyRange → Job
+with_dump settings state job piece =
+    record job { hand = dumped job.hand piece state.time (dump_done settings state job piece) }
 
-abbrev pub dump_put : Settings → state.State → Found → KeyRange → Luck → Moved
-dump_put s w found piece luck = putting w (whole_name found.job.container (dump_name s w found.job)) (dump_bytes s w found.job piece) (with_job found.place (with_dump s w found.job piece) w) luck
+abbrev pub dump_put : Settings → machine.State → Found → KeyRange → Luck → Moved
+dump_put settings state found piece luck =
+    putting state (whole_name found.job.container (dump_name settings state found.job))
+    (dump_bytes settings state found.job piece)
+    (with_job found.place (with_dump settings state found.job piece) state) luck
 
 -- a key outside the job's ranges is named first, then one that a noted piece holds
-abbrev pub dump_tested : Settings → state.State → Found → KeyRange → Luck → Option Bytes → Option Bytes → Moved
-dump_tested s w found piece luck (Some key) held = refuses (OutsideRanges key) w
-dump_tested s w found piece luck None (Some key) = refuses (Overlap key) w
-dump_tested s w found piece luck None None = dump_put s w found piece luck
+abbrev pub dump_tested : Settings → machine.State → Found → KeyRange → Luck → Option Bytes
+    → Option Bytes → Moved
+dump_tested settings state found piece luck (Some key) held = refuses (OutsideRanges key) state
+dump_tested settings state found piece luck None (Some key) = refuses (Overlap key) state
+dump_tested settings state found piece luck None None = dump_put settings state found piece luck
 
-abbrev pub dump_piece : Settings → state.State → KeyRange → Luck → Found → Moved
-dump_piece s w piece luck found = dump_tested s w found piece luck (outside found.job.hand.map.ranges piece) (overlap (pieces_of found.job.hand.map.noted) piece)
+abbrev pub dump_piece : Settings → machine.State → KeyRange → Luck → Found → Moved
+dump_piece settings state piece luck found =
+    dump_tested settings state found piece luck (outside found.job.hand.map.ranges piece)
+    (overlap (pieces_of found.job.hand.map.noted) piece)
 
 -- ---- cut
 
-abbrev pub cut_bytes : Settings → state.State → Job → Bytes
-cut_bytes s w job = log_text s.block (logged (history_on job.side w) job.hand.map.ranges job.hand.next (w.time + 1))
+abbrev pub cut_bytes : Settings → machine.State → Job → Bytes
+cut_bytes settings state job =
+    log_text settings.block
+    (logged (history_on job.side state) job.hand.map.ranges job.hand.next (state.time + 1))
 
-abbrev pub cut_name : Settings → state.State → Job → Bytes
-cut_name s w job = text_of (log_name job.hand w.time w.tickets s.block)
+abbrev pub cut_name : Settings → machine.State → Job → Bytes
+cut_name settings state job = text_of (log_name job.hand state.time state.tickets settings.block)
 
-abbrev pub with_cut : state.State → Job → Job
-with_cut w job = record job { hand = cut_to job.hand w.time }
+abbrev pub with_cut : machine.State → Job → Job
+with_cut state job = record job { hand = cut_to job.hand state.time }
 
-abbrev pub cut_put : Settings → state.State → Luck → Found → Moved
-cut_put s w luck found = putting w (whole_name found.job.container (cut_name s w found.job)) (cut_bytes s w found.job) (with_job found.place (with_cut w found.job) w) luck
+abbrev pub cut_put : Settings → machine.State → Luck → Found → Moved
+cut_put settings state luck found =
+    putting state (whole_name found.job.container (cut_name settings state found.job))
+    (cut_bytes settings state found.job) (with_job found.place (with_cut state found.job) state)
+    luck
 
 -- the log from the last cut to the newest version, which may not be cut yet
-abbrev pub cut_log : Settings → state.State → Luck → Found → Moved
-cut_log s w luck found = if nat_lt w.time found.job.hand.next then refuses (NothingNew w.time) w else cut_put s w luck found
+abbrev pub cut_log : Settings → machine.State → Luck → Found → Moved
+cut_log settings state luck found =
+    if nat_lt state.time found.job.hand.next then refuses (NothingNew state.time) state
+    else cut_put settings state luck found
 
 -- ---- seal
 
-abbrev pub seal_name : state.State → Job → Bytes
-seal_name w job = text_of (manifest_name job.hand w.tickets)
+abbrev pub seal_name : machine.State → Job → Bytes
+seal_name state job = text_of (manifest_name job.hand state.tickets)
 
 abbrev pub with_seal : Job → Job
 with_seal job = record job { hand = sealed job.hand }
 
-abbrev pub seal_put : state.State → Found → Luck → Moved
-seal_put w found luck = putting w (whole_name found.job.container (seal_name w found.job)) (manifest_text (manifest_of found.job.hand.map.noted)) (with_job found.place (with_seal found.job) w) luck
+abbrev pub seal_put : machine.State → Found → Luck → Moved
+seal_put state found luck =
+    putting state (whole_name found.job.container (seal_name state found.job))
+    (manifest_text (manifest_of found.job.hand.map.noted))
+    (with_job found.place (with_seal found.job) state) luck
 
-abbrev pub seal_tested : state.State → Found → Luck → Option Bytes → Moved
-seal_tested w found luck (Some key) = refuses (Untiled key) w
-seal_tested w found luck None = seal_put w found luck
+abbrev pub seal_tested : machine.State → Found → Luck → Option Bytes → Moved
+seal_tested state found luck (Some key) = refuses (Untiled key) state
+seal_tested state found luck None = seal_put state found luck
 
 -- the manifest of the pieces that were dumped, which have to tile the ranges
-abbrev pub seal_job : state.State → Luck → Found → Moved
-seal_job w luck found = seal_tested w found luck (gap found.job.hand.map)
+abbrev pub seal_job : machine.State → Luck → Found → Moved
+seal_job state luck found = seal_tested state found luck (gap found.job.hand.map)
 
 -- ---- abort, status
 
 abbrev pub with_abort : Job → Job
 with_abort job = record job { hand = aborted_job job.hand }
 
-abbrev pub abort_job : state.State → Found → Moved
-abort_job w found = done (with_job found.place (with_abort found.job) w)
+abbrev pub abort_job : machine.State → Found → Moved
+abort_job state found = done (with_job found.place (with_abort found.job) state)
 
 -- ---- commands of one job
 
 -- a command of a job that hasn't ended
-abbrev pub on_running : state.State → (Found → Moved) → Found → Moved
-on_running w f found = if found.job.hand.aborted then refuses (WrongState (state_of_job found.job)) w else f found
+abbrev pub on_running : machine.State → (Found → Moved) → Found → Moved
+on_running state f found =
+    if found.job.hand.aborted then refuses (WrongState (state_of_job found.job)) state else f found
 
-abbrev pub on_found : state.State → Bytes → (Found → Moved) → Option Found → Moved
-on_found w tag f None = refuses (NoJob tag) w
-on_found w tag f (Some found) = on_running w f found
+abbrev pub on_found : machine.State → Bytes → (Found → Moved) → Option Found → Moved
+on_found state tag f None = refuses (NoJob tag) state
+on_found state tag f (Some found) = on_running state f found
 
 -- the newest job with the tag has to be there and may not have ended
-abbrev pub on_job : state.State → Bytes → (Found → Moved) → Moved
-on_job w tag f = on_found w tag f (newest tag w.jobs)
+abbrev pub on_job : machine.State → Bytes → (Found → Moved) → Moved
+on_job state tag f = on_found state tag f (newest tag state.jobs)
 
-abbrev pub tell_state : state.State → Option Found → Moved
-tell_state w found = moved (Ok (State (option_map (λ found. state_of_job found.job) found))) (gone_on w)
+abbrev pub tell_state : machine.State → Option Found → Moved
+tell_state state found =
+    moved (Ok (State (option_map (λ found. state_of_job found.job) found))) (gone_on state)
 
 -- ---- all commands
 
-abbrev pub command_gives : Settings → state.State → Luck → Command → Moved
-command_gives s w luck (commands.Open tag side container ranges) = open_job s w tag side container ranges luck
-command_gives s w luck (commands.Dump tag piece) = on_job w tag (dump_piece s w piece luck)
-command_gives s w luck (commands.Cut tag) = on_job w tag (cut_log s w luck)
-command_gives s w luck (commands.Seal tag) = on_job w tag (seal_job w luck)
-command_gives s w luck (commands.Abort tag) = on_job w tag (abort_job w)
-command_gives s w luck (commands.Status tag) = tell_state w (newest tag w.jobs)
+abbrev pub command_gives : Settings → machine.State → Luck → Command → Moved
+command_gives settings state luck (commands.Open tag side container ranges) =
+    open_job settings state tag side container ranges luck
+command_gives settings state luck (commands.Dump tag piece) =
+    on_job state tag (dump_piece settings state piece luck)
+command_gives settings state luck (commands.Cut tag) =
+    on_job state tag (cut_log settings state luck)
+command_gives settings state luck (commands.Seal tag) = on_job state tag (seal_job state luck)
+command_gives settings state luck (commands.Abort tag) = on_job state tag (abort_job state)
+command_gives settings state luck (commands.Status tag) = tell_state state (newest tag state.jobs)
 
-abbrev pub operator_with : Settings → state.State → Luck → Option Command → Moved
-operator_with s w luck None = moved (Ok Nothing) w
-operator_with s w luck (Some command) = command_gives s w luck command
+abbrev pub operator_with : Settings → machine.State → Luck → Option Command → Moved
+operator_with settings state luck None = moved (Ok Nothing) state
+operator_with settings state luck (Some command) = command_gives settings state luck command

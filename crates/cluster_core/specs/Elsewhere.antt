@@ -21,13 +21,18 @@ told_of files name = option_map (λ (told : List File). file_of told name) files
 abbrev pub IsOutside : List Job → Bytes → Type 0
 IsOutside jobs name = AllByRecursion (λ (job : Job). name_in job.container name ≡ None) jobs
 
--- What is kept from one state to a later one: a name outside the containers of the later jobs was outside before, and its file is as it was. A store that tells its files goes on telling.
+-- What is kept from one state to a later one: a name outside the containers of the later jobs was
+-- outside before, and its file is as it was. A store that tells its files goes on telling.
 pub record KeepsElsewhere (old new : State) : Type 0 where
   pub outside : (name : Bytes) → IsOutside new.jobs name → IsOutside old.jobs name
-  pub same : (name : Bytes) → IsOutside new.jobs name → told_of new.files name ≡ told_of old.files name
+  pub same : (name : Bytes) → IsOutside new.jobs name
+      → told_of new.files name ≡ told_of old.files name
   pub telling : is_some new.files ≡ is_some old.files
 
 pub record ElsewhereLaw : Type 0 where
   -- each step keeps it, refused or not, and so does every run
-  pub step : (workload : Workload) (old new : State) (event : Event) (answer : Result Answer StepFault) → Step workload old event answer new → KeepsElsewhere old new
-  pub run : (workload : Workload) (old new : State) (turns : List Turn) → Run workload old turns new → KeepsElsewhere old new
+  pub step : (workload : Workload) (old new : State) (event : Event)
+      (answer : Result Answer StepFault)
+      → Step workload old event answer new → KeepsElsewhere old new
+  pub run : (workload : Workload) (old new : State) (turns : List Turn) → Run workload old turns new
+      → KeepsElsewhere old new

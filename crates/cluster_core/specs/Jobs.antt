@@ -1,5 +1,6 @@
 -- The jobs of a run, and how they are found.
-use Rattle.std.specs.Prelude.{ℕ, ◌+◌, Bool, true, false, not, ◌&&◌, List, [], ◌∷◌, Option, Some, None, if◌then◌else◌}
+use Rattle.std.specs.Prelude.{ℕ, ◌+◌, Bool, true, false, not, ◌&&◌, List, [], ◌∷◌, Option, Some}
+use Rattle.std.specs.Prelude.{None, if◌then◌else◌}
 use Rattle.fb_bytes.specs.Bytes.{Bytes, is_same}
 use Rattle.fb_bytes.specs.declared.KeyRange.{KeyRange}
 use Rattle.mutations.specs.Transactions.{◌or_else◌}
@@ -10,7 +11,8 @@ use Rattle.backup_core.specs.Hand.{HandJob}
 use Rattle.cluster_core.specs.declared.job_state.JobState.{JobState}
 use Rattle.cluster_core.specs.declared.job_state.JobState.TheVariants.{Running, Aborted}
 
--- a job: its tag, the database that it reads, the container that it writes to, and what its kind keeps
+-- a job: its tag, the database that it reads, the container that it writes to, and what its kind
+-- keeps
 pub record Job : Type 0 where
   pub tag : Bytes
   pub side : Side
@@ -25,7 +27,9 @@ pub record Found : Type 0 where
 -- the newest job with the tag, the places counted on from a number
 abbrev pub newest_from : ℕ → Bytes → List Job → Option Found
 newest_from place tag [] = None
-newest_from place tag (job ∷ jobs) = newest_from (place + 1) tag jobs or_else (if is_same job.tag tag then Some (record { place = place; job = job }) else None)
+newest_from place tag (job ∷ jobs) =
+    newest_from (place + 1) tag jobs or_else
+    (if is_same job.tag tag then Some (record { place = place; job = job }) else None)
 
 abbrev pub newest : Bytes → List Job → Option Found
 newest tag jobs = newest_from 0 tag jobs
@@ -33,7 +37,8 @@ newest tag jobs = newest_from 0 tag jobs
 -- the first job that was started in the container
 abbrev pub started_in : Bytes → List Job → Option Job
 started_in container [] = None
-started_in container (job ∷ jobs) = if is_same job.container container then Some job else started_in container jobs
+started_in container (job ∷ jobs) =
+    if is_same job.container container then Some job else started_in container jobs
 
 abbrev pub state_if : Bool → JobState
 state_if aborted = if aborted then Aborted else Running
@@ -50,7 +55,10 @@ is_on Dst Dst = true
 
 -- a log in front, where the job logs on that side: it reads that database and hasn't ended
 abbrev pub with_log_of : Side → ℕ → Job → List JobLog → List JobLog
-with_log_of side number job logs = if is_on side job.side && not job.hand.aborted then record { job = number; ranges = job.hand.map.ranges; begin = job.hand.begin } ∷ logs else logs
+with_log_of side number job logs =
+    if is_on side job.side && not job.hand.aborted
+    then record { job = number; ranges = job.hand.map.ranges; begin = job.hand.begin } ∷ logs
+    else logs
 
 -- the logs of a side's database, the jobs being numbered on from a number
 abbrev pub logs_from : Side → ℕ → List Job → List JobLog
@@ -70,4 +78,11 @@ pub record JobTold : Type 0 where
   pub state : JobState
 
 abbrev pub job_told : Job → JobTold
-job_told job = record { tag = job.tag; side = job.side; container = job.container; ranges = job.hand.map.ranges; state = state_of_job job }
+job_told job =
+    record {
+      tag = job.tag;
+      side = job.side;
+      container = job.container;
+      ranges = job.hand.map.ranges;
+      state = state_of_job job;
+    }

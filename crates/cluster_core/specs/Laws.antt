@@ -15,16 +15,29 @@ use Rattle.cluster_core.specs.Sound.{Sound, source_of}
 
 -- The opening state of each workload is sound, whatever files there are.
 abbrev pub OpeningLaw : Type 0
-OpeningLaw = (workload : Workload) (files : Option (List File)) → ((told : List File) → files ≡ Some told → AreFiles told) → Sound workload (opening workload files)
+OpeningLaw =
+    (workload : Workload) (files : Option (List File))
+    → ((told : List File) → files ≡ Some told → AreFiles told)
+    → Sound workload (opening workload files)
 
 -- Each step keeps it, refused or not.
 abbrev pub StepLaw : Type 0
-StepLaw = (workload : Workload) (old new : State) (event : Event) (answer : Result Answer StepFault) → Step workload old event answer new → Sound workload old → Sound workload new
+StepLaw =
+    (workload : Workload) (old new : State) (event : Event) (answer : Result Answer StepFault)
+    → Step workload old event answer new → Sound workload old → Sound workload new
 
 -- So every run keeps it.
 abbrev pub RunLaw : Type 0
-RunLaw = (workload : Workload) (old new : State) (turns : List Turn) → Run workload old turns new → Sound workload old → Sound workload new
+RunLaw =
+    (workload : Workload) (old new : State) (turns : List Turn) → Run workload old turns new
+    → Sound workload old → Sound workload new
 
--- In a sound state the container of each job is faithful to the history of its database, cut to the job's ranges.
+-- In a sound state the container of each job is faithful to the history of its database, cut to the
+-- job's ranges.
 abbrev pub FaithfulLaw : Type 0
-FaithfulLaw = (workload : Workload) (w : State) (files : List File) → Sound workload w → w.files ≡ Some files → (place : ℕ) (job : Job) → slice_get w.jobs place ≡ Some job → IsFaithfulStore file_grammars (source_of workload.settings.block w.time (history_on job.side w) job) job.container files
+FaithfulLaw =
+    (workload : Workload) (state : State) (files : List File) → Sound workload state
+    → state.files ≡ Some files → (place : ℕ) (job : Job) → slice_get state.jobs place ≡ Some job
+    → IsFaithfulStore file_grammars
+    (source_of workload.settings.block state.time (history_on job.side state) job)
+    job.container files

@@ -5,7 +5,9 @@ use Rattle.cluster_core.specs.declared.event.Answer.{Answer}
 use Rattle.cluster_core.specs.declared.event.StepFault.{StepFault}
 use Rattle.cluster_core.specs.State.{State}
 
--- What the outside does in a step: memory may be short, and a call on the file store may fail, which leaves the old files or the new ones. Where all goes well, a list of a container's files said these names.
+-- What the outside does in a step: memory may be short, and a call on the file store may fail,
+-- which leaves the old files or the new ones. Where all goes well, a list of a container's files
+-- said these names.
 pub data Luck : Type 0 where
   Fine : (said : List Bytes) → Luck
   FailsOld : Luck

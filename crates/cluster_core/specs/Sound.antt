@@ -1,5 +1,6 @@
 -- What each step keeps.
-use Rattle.std.specs.Prelude.{◌≡◌, ℕ, ◌+◌, ◌^◌, ◌<◌, ◌≤◌, true, false, List, [], map, length, Some, slice_get}
+use Rattle.std.specs.Prelude.{◌≡◌, ℕ, ◌+◌, ◌^◌, ◌<◌, ◌≤◌, true, false, List, [], map, length, Some}
+use Rattle.std.specs.Prelude.{slice_get}
 use Rattle.std.specs.List.{AllByRecursion}
 use Rattle.fb_bytes.specs.Bytes.{Bytes, is_same}
 use Rattle.fb_bytes.specs.declared.KeyRange.{KeyRange}
@@ -42,7 +43,8 @@ abbrev pub other_side : Side → Side
 other_side Src = Dst
 other_side Dst = Src
 
--- A client's outcomes and its database's history are legal for its script, and the other database has no entry by it.
+-- A client's outcomes and its database's history are legal for its script, and the other database
+-- has no entry by it.
 pub record IsClientSound (src dst : List Entry) (number : ℕ) (client : ClientState) : Type 0 where
   pub numbered : client.script.number ≡ number
   pub placed : client.place ≡ length client.outcomes
@@ -51,13 +53,17 @@ pub record IsClientSound (src dst : List Entry) (number : ℕ) (client : ClientS
 
 -- the scripts that the clients go through
 abbrev pub scripts_of : State → List ClientScript
-scripts_of w = map (λ client. client.script) w.clients
+scripts_of state = map (λ client. client.script) state.clients
 
 -- ---- jobs
 
 -- what a job logs of each entry from a version on has fewer than 2^32 bytes
 abbrev pub AreLoggable : List KeyRange → ℕ → List Entry → Type 0
-AreLoggable ranges begin history = AllByRecursion (λ entry. begin ≤ entry.version → length (mutations_spelling (all_clipped ranges entry.muts)) < 2 ^ 32) history
+AreLoggable ranges begin history =
+    AllByRecursion
+    (λ entry. begin ≤ entry.version
+    → length (mutations_spelling (all_clipped ranges entry.muts)) < 2 ^ 32)
+    history
 
 -- a range file of this version, whose ticket was drawn
 pub record IsNoted (block now tickets : ℕ) (noted : Noted) : Type 0 where
@@ -74,7 +80,8 @@ pub record IsJobSound (block now tickets : ℕ) (history : List Entry) (job : Jo
   pub some : 0 < length job.hand.map.ranges
   -- the pieces of its snapshot are in order, and in its ranges
   pub pieces : ArePieces (pieces_of job.hand.map.noted)
-  pub inside : (key : Bytes) → in_ranges (pieces_of job.hand.map.noted) key ≡ true → in_ranges job.hand.map.ranges key ≡ true
+  pub inside : (key : Bytes) → in_ranges (pieces_of job.hand.map.noted) key ≡ true
+      → in_ranges job.hand.map.ranges key ≡ true
   -- each has a file of its own
   pub noted : AllByRecursion (IsNoted block now tickets) job.hand.map.noted
   pub distinct : AreDistinct (noted_names job.hand.map.noted)
@@ -86,14 +93,17 @@ pub record IsJobSound (block now tickets : ℕ) (history : List Entry) (job : Jo
 
 -- what a job's container is a backup of
 abbrev pub source_of : ℕ → ℕ → List Entry → Job → Source
-source_of block now history job = record { history = history; now = now; ranges = job.hand.map.ranges; block = block }
+source_of block now history job =
+    record { history = history; now = now; ranges = job.hand.map.ranges; block = block }
 
 -- the file of a noted piece is in the container, and has that piece
-pub record IsThere (block : ℕ) (container : Bytes) (files : List File) (noted : Noted) : Type 0 where
+pub record IsThere (block : ℕ) (container : Bytes) (files : List File)
+    (noted : Noted) : Type 0 where
   pub bytes : Bytes
   pub file : file_of files (whole_name container noted.file.name) ≡ Some bytes
   pub pairs : List Pair
-  pub content : file_grammars.range block bytes ≡ Some (record { range = noted.piece; pairs = pairs })
+  pub content : file_grammars.range block bytes
+      ≡ Some (record { range = noted.piece; pairs = pairs })
 
 -- the name is that of a range file whose ticket was drawn
 pub record IsDrawn (tickets : ℕ) (name : Bytes) : Type 0 where
@@ -105,28 +115,38 @@ pub record IsDrawn (tickets : ℕ) (name : Bytes) : Type 0 where
   pub drawn : ticket < tickets
 
 -- What is kept of a job's container, where the store tells its files.
-pub record IsStored (block now tickets : ℕ) (history : List Entry) (files : List File) (job : Job) : Type 0 where
+pub record IsStored (block now tickets : ℕ) (history : List Entry) (files : List File)
+    (job : Job) : Type 0 where
   pub honest : IsHonestStore file_grammars (source_of block now history job) job.container files
   pub there : AllByRecursion (IsThere block job.container files) job.hand.map.noted
   -- manifests list range files with drawn tickets alone
-  pub listed : (name bytes : Bytes) (names : List Bytes) → file_of files (whole_name job.container name) ≡ Some bytes → listed_by file_grammars (name_of name) bytes ≡ Some names → AllByRecursion (IsDrawn tickets) names
+  pub listed : (name bytes : Bytes) (names : List Bytes)
+      → file_of files (whole_name job.container name) ≡ Some bytes
+      → listed_by file_grammars (name_of name) bytes ≡ Some names
+      → AllByRecursion (IsDrawn tickets) names
 
 -- no two jobs have one container
 abbrev pub AreApart : List Job → Type 0
-AreApart jobs = (a b : ℕ) (first second : Job) → slice_get jobs a ≡ Some first → slice_get jobs b ≡ Some second → is_same first.container second.container ≡ true → a ≡ b
+AreApart jobs =
+    (a b : ℕ) (first second : Job) → slice_get jobs a ≡ Some first → slice_get jobs b ≡ Some second
+    → is_same first.container second.container ≡ true → a ≡ b
 
 -- What is kept of all jobs, over the files that the store tells.
-pub record AreStored (block : ℕ) (w : State) (files : List File) : Type 0 where
+pub record AreStored (block : ℕ) (state : State) (files : List File) : Type 0 where
   pub ordered : AreFiles files
-  pub each : (place : ℕ) (job : Job) → slice_get w.jobs place ≡ Some job → IsStored block w.time w.tickets (history_on job.side w) files job
+  pub each : (place : ℕ) (job : Job) → slice_get state.jobs place ≡ Some job
+      → IsStored block state.time state.tickets (history_on job.side state) files job
 
-pub record Sound (p : Workload) (w : State) : Type 0 where
-  pub bound : w.time ≤ most_version
-  pub histories : (side : Side) → IsOrdered w.time (history_on side w)
-  pub within : (side : Side) → AreWithin p.settings.block (history_on side w)
-  pub scripts_are : scripts_of w ≡ p.clients
-  pub clients : (number : ℕ) (client : ClientState) → client_at w.clients number ≡ Some client → IsClientSound w.src w.dst number client
-  pub tickets : w.tickets ≤ most_version + 1
-  pub jobs : (place : ℕ) (job : Job) → slice_get w.jobs place ≡ Some job → IsJobSound p.settings.block w.time w.tickets (history_on job.side w) job
-  pub apart : AreApart w.jobs
-  pub stored : (files : List File) → w.files ≡ Some files → AreStored p.settings.block w files
+pub record Sound (workload : Workload) (state : State) : Type 0 where
+  pub bound : state.time ≤ most_version
+  pub histories : (side : Side) → IsOrdered state.time (history_on side state)
+  pub within : (side : Side) → AreWithin workload.settings.block (history_on side state)
+  pub scripts_are : scripts_of state ≡ workload.clients
+  pub clients : (number : ℕ) (client : ClientState) → client_at state.clients number ≡ Some client
+      → IsClientSound state.src state.dst number client
+  pub tickets : state.tickets ≤ most_version + 1
+  pub jobs : (place : ℕ) (job : Job) → slice_get state.jobs place ≡ Some job
+      → IsJobSound workload.settings.block state.time state.tickets (history_on job.side state) job
+  pub apart : AreApart state.jobs
+  pub stored : (files : List File) → state.files ≡ Some files
+      → AreStored workload.settings.block state files

@@ -34,11 +34,11 @@ on_side Dst src dst = dst
 
 -- the history of a side's database
 abbrev pub history_on : Side → State → List Entry
-history_on side w = on_side side w.src w.dst
+history_on side state = on_side side state.src state.dst
 
 abbrev pub with_history : Side → List Entry → State → State
-with_history Src history w = record w { src = history }
-with_history Dst history w = record w { dst = history }
+with_history Src history state = record state { src = history }
+with_history Dst history state = record state { dst = history }
 
 -- the client of a number, counted from 1
 abbrev pub client_at : List ClientState → ℕ → Option ClientState
@@ -52,7 +52,7 @@ put_client clients (suc n) client = slice_set clients n client
 
 -- the state with another job at a place
 abbrev pub with_job : ℕ → Job → State → State
-with_job place job w = record w { jobs = slice_set w.jobs place job }
+with_job place job state = record state { jobs = slice_set state.jobs place job }
 
 -- the files with a put, where they are told
 abbrev pub with_put : Bytes → Bytes → Option (List File) → Option (List File)
@@ -61,4 +61,14 @@ with_put whole bytes (Some files) = Some (with_file files whole bytes)
 
 -- the state in which a workload begins
 abbrev pub opening : Workload → Option (List File) → State
-opening workload files = record { time = 0; src = []; dst = []; clients = map new_client workload.clients; jobs = []; place = 0; tickets = 1; files = files }
+opening workload files =
+    record {
+      time = 0;
+      src = [];
+      dst = [];
+      clients = map new_client workload.clients;
+      jobs = [];
+      place = 0;
+      tickets = 1;
+      files = files;
+    }

@@ -1,5 +1,6 @@
 -- One step of the machine, and its runs.
-use Rattle.std.specs.Prelude.{◌≡◌, ℕ, List, [], ◌∷◌, Option, Some, None, Result, Ok, Err, slice_get, if◌then◌else◌}
+use Rattle.std.specs.Prelude.{◌≡◌, ℕ, List, [], ◌∷◌, Option, Some, None, Result, Ok, Err, slice_get}
+use Rattle.std.specs.Prelude.{if◌then◌else◌}
 use Rattle.fb_bytes.specs.Options.{◌>>=◌}
 use Rattle.workload_text.specs.declared.Settings.{Settings}
 use Rattle.workload_text.specs.declared.Workload.{Workload}
@@ -19,51 +20,61 @@ use Rattle.cluster_core.specs.Commands.{operator_with}
 -- ---- begin
 
 abbrev pub begin_with : State → ℕ → Option ClientState → Moved
-begin_with w number None = moved (Ok Nothing) w
-begin_with w number (Some client) = moved (Ok (Read w.time)) (record w { clients = put_client w.clients number client })
+begin_with state number None = moved (Ok Nothing) state
+begin_with state number (Some client) =
+    moved (Ok (Read state.time)) (record state { clients = put_client state.clients number client })
 
 -- A transaction is begun where the client is there, has one left and has begun none.
 abbrev pub begin : State → ℕ → Moved
-begin w number = begin_with w number (client_at w.clients number >>= begun_client w.time)
+begin state number =
+    begin_with state number (client_at state.clients number >>= begun_client state.time)
 
 -- ---- commit
 
 -- the state after a try of the client of that number
 abbrev pub after : State → ℕ → Try → State
-after w number try = record (with_history try.client.script.side try.history w) { time = try.time; clients = put_client w.clients number try.client }
+after state number try =
+    record (with_history try.client.script.side try.history state)
+    { time = try.time; clients = put_client state.clients number try.client }
 
 abbrev pub commit_with : State → ℕ → Option Try → Moved
-commit_with w number None = moved (Ok Nothing) w
-commit_with w number (Some try) = moved (Ok (Outcome try.outcome)) (after w number try)
+commit_with state number None = moved (Ok Nothing) state
+commit_with state number (Some try) = moved (Ok (Outcome try.outcome)) (after state number try)
 
 -- a client's try in this state
 abbrev pub try_in : Settings → State → ClientState → Option Try
-try_in s w client = commit_try s.block w.time s.pace (logs_of client.script.side w.jobs) (history_on client.script.side w) client
+try_in settings state client =
+    commit_try settings.block state.time settings.pace (logs_of client.script.side state.jobs)
+    (history_on client.script.side state) client
 
 -- A try is made where the client is there and has begun a transaction.
 abbrev pub commit : Settings → State → ℕ → Moved
-commit s w number = commit_with w number (client_at w.clients number >>= try_in s w)
+commit settings state number =
+    commit_with state number (client_at state.clients number >>= try_in settings state)
 
 -- ---- all events
 
 -- The operator's next command, where one is left.
 abbrev pub operate : Workload → State → Luck → Moved
-operate p w luck = operator_with p.settings w luck (slice_get p.operator w.place)
+operate workload state luck =
+    operator_with workload.settings state luck (slice_get workload.operator state.place)
 
 -- what an event gives where memory suffices for it
 abbrev pub event_gives : Workload → State → Luck → Event → Moved
-event_gives p w luck (Begin client) = begin w client
-event_gives p w luck (Commit client) = commit p.settings w client
-event_gives p w luck events.Command = operate p w luck
+event_gives workload state luck (Begin client) = begin state client
+event_gives workload state luck (Commit client) = commit workload.settings state client
+event_gives workload state luck events.Command = operate workload state luck
 
 -- A step for which memory is short is refused, and changes nothing.
 abbrev pub step : Workload → State → Event → Luck → Moved
-step p w event luck = if is_starved luck then moved (Err NoMemory) w else event_gives p w luck event
+step workload state event luck =
+    if is_starved luck then moved (Err NoMemory) state else event_gives workload state luck event
 
 -- From old, the machine may give this answer to the event and go on to new.
-pub record Step (p : Workload) (old : State) (event : Event) (answer : Result Answer StepFault) (new : State) : Type 0 where
+pub record Step (workload : Workload) (old : State) (event : Event)
+    (answer : Result Answer StepFault) (new : State) : Type 0 where
   pub luck : Luck
-  pub gives : step p old event luck ≡ moved answer new
+  pub gives : step workload old event luck ≡ moved answer new
 
 -- an event and what it was answered
 pub record Turn : Type 0 where
@@ -72,5 +83,7 @@ pub record Turn : Type 0 where
 
 -- From old, a run may take these turns and end in new.
 abbrev pub Run : Workload → State → List Turn → State → Type 0
-Run p old [] new = old ≡ new
-Run p old (turn ∷ turns) new = (middle : State) × Step p old turn.event turn.answer middle × Run p middle turns new
+Run workload old [] new = old ≡ new
+Run workload old (turn ∷ turns) new =
+    (middle : State) × Step workload old turn.event turn.answer middle
+    × Run workload middle turns new

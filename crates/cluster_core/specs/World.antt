@@ -25,16 +25,22 @@ use Rattle.cluster_core.specs.declared.event.Answer.TheVariants as answers
 use Rattle.client_core.specs.Clients.{ClientState, begun_client, Try, commit_try}
 use Rattle.cluster_core.specs.Jobs.{Job, logs_of}
 use Rattle.cluster_core.specs.State.{State, client_at}
+use Rattle.cluster_core.specs.declared.event.Event.TheVariants as events
 use Rattle.cluster_core.specs.declared.event.StepFault.{StepFault}
 use Rattle.cluster_core.specs.declared.event.StepFault.TheVariants.{NoMemory}
-use Rattle.cluster_core.specs.Moves.{moved}
+use Rattle.cluster_core.specs.Moves.{Luck, moved}
 use Rattle.cluster_core.specs.Commands.{names_listed}
-use Rattle.cluster_core.specs.Step.{commit}
+use Rattle.cluster_core.specs.Step.{commit, step}
 use Rattle.cluster_core.specs.Sound.{Sound}
 
 -- a workload's commands are allowed in one way alone, so that fact has a code
-abbrev pub allowed_code : (settings : Settings) (clients : List ClientScript) (operator : List Command) (schedule : List ScheduleLine) (numbered : workload.numbered-type settings clients operator schedule) → Coded (workload.operator_allowed-type settings clients operator schedule numbered)
-allowed_code settings clients operator schedule numbered = prop_coded (AllByRecursion-prop (IsCommand settings.block) (IsCommand-prop settings.block) operator)
+abbrev pub allowed_code : (settings : Settings) (clients : List ClientScript)
+    (operator : List Command) (schedule : List ScheduleLine)
+    (numbered : workload.numbered-type settings clients operator schedule)
+    → Coded (workload.operator_allowed-type settings clients operator schedule numbered)
+allowed_code settings clients operator schedule numbered =
+    prop_coded
+    (AllByRecursion-prop (IsCommand settings.block) (IsCommand-prop settings.block) operator)
 
 pub record Seen : Type 0 where
   pub workload : Workload
@@ -43,6 +49,11 @@ pub record Seen : Type 0 where
   pub calls : ℕ
   pub faults : ℕ
 
+-- the step of the operator's next command, by what the outside did
+abbrev pub OperatorSteps : Seen → Result Answer StepFault → Seen → Type 0
+OperatorSteps old result new =
+    (luck : Luck) × (step old.workload old.state events.Command luck ≡ moved result new.state)
+
 -- what the operator has: its jobs, how many of its commands have ended, and the next ticket
 pub record Desk : Type 0 where
   pub jobs : List Job
@@ -50,11 +61,23 @@ pub record Desk : Type 0 where
   pub tickets : ℕ
 
 -- the machine's state, of the parts that keep it
-abbrev pub state_of : List ClientState → Database → Database → Versions → Desk → Option (List File) → State
-state_of clients src dst versions desk files = record { time = versions.now; src = src.history; dst = dst.history; clients = clients; jobs = desk.jobs; place = desk.place; tickets = desk.tickets; files = files }
+abbrev pub state_of : List ClientState → Database → Database → Versions → Desk → Option (List File)
+    → State
+state_of clients src dst versions desk files =
+    record {
+      time = versions.now;
+      src = src.history;
+      dst = dst.history;
+      clients = clients;
+      jobs = desk.jobs;
+      place = desk.place;
+      tickets = desk.tickets;
+      files = files;
+    }
 
 -- the parts are those of a run of the workload, in a sound state
-pub record IsWorld (workload : Workload) (src dst : Database) (versions : Versions) (state : State) : Type 0 where
+pub record IsWorld (workload : Workload) (src dst : Database) (versions : Versions)
+    (state : State) : Type 0 where
   pub src_block : src.block ≡ workload.settings.block
   pub dst_block : dst.block ≡ workload.settings.block
   pub pace : versions.pace ≡ workload.settings.pace
@@ -69,7 +92,8 @@ begun_in clients number time = client_at clients number >>= begun_client time
 
 -- the client's try against one database, where it has begun a transaction
 abbrev pub tried_in : List ClientState → ℕ → Database → Versions → Option Try
-tried_in clients number db versions = client_at clients number >>= commit_try db.block versions.now versions.pace db.logs db.history
+tried_in clients number db versions =
+    client_at clients number >>= commit_try db.block versions.now versions.pace db.logs db.history
 
 -- the side of the client of that number
 abbrev pub side_in : List ClientState → ℕ → Option Side
@@ -82,8 +106,8 @@ answer_of (Some outcome) = answers.Outcome outcome
 
 -- a commit that wasn't refused made its step; a refused one changed nothing
 abbrev pub CommitSteps : Settings → State → ℕ → Result Answer StepFault → State → Type 0
-CommitSteps s old number (Ok answer) new = commit s old number ≡ moved (Ok answer) new
-CommitSteps s old number (Err fault) new = (fault ≡ NoMemory) × (new ≡ old)
+CommitSteps settings old number (Ok answer) new = commit settings old number ≡ moved (Ok answer) new
+CommitSteps settings old number (Err fault) new = (fault ≡ NoMemory) × (new ≡ old)
 
 -- the database of one side with a log more, where the log is of that side
 abbrev pub logs_more : Side → Side → JobLog → Database → Database
@@ -101,8 +125,10 @@ logs_less Dst Dst job db = record db { logs = without_log job db.logs }
 
 -- a list of a container's files gave this name first, or none
 abbrev pub IsListed : State → Bytes → Option Bytes → Type 0
-IsListed w container None = (said : List Bytes) × (names_listed container w.files said ≡ [])
-IsListed w container (Some name) = (said : List Bytes) × (names : List Bytes) × (names_listed container w.files said ≡ name ∷ names)
+IsListed state container None = (said : List Bytes) × (names_listed container state.files said ≡ [])
+IsListed state container (Some name) =
+    (said : List Bytes) × (names : List Bytes)
+    × (names_listed container state.files said ≡ name ∷ names)
 
 -- the first of the names, where there is one
 abbrev pub IsFirstName : List Bytes → Option Bytes → Type 0

@@ -1,4 +1,5 @@
-ghost use Rattle.std.specs.Prelude.{◌≡◌, ℕ, ◌≤◌, List, Option, Some, None, Ok, map, MatchOption, IfOk, IfErr, OnErr};
+ghost use Rattle.std.specs.Prelude.{◌≡◌, ℕ, ◌≤◌, List, Option, Some, None, Ok, map, MatchOption};
+ghost use Rattle.std.specs.Prelude.{IfOk, IfErr, OnErr};
 ghost use Rattle.fb_outside.specs.declared.File.{File};
 ghost use Rattle.std.specs.List.{AllByRecursion};
 ghost use Rattle.mutations.specs.declared.Entry.{Entry};
@@ -62,14 +63,23 @@ pub fn commit_client(
     versions: &mut Versions,
 ) -> Result<Answer, StepFault>
     requires pace { 1 ≤ versions.old.pace }
-    requires src { AllByRecursion (λ (entry : Entry). entry.version ≤ versions.old.now) src.old.history }
-    requires dst { AllByRecursion (λ (entry : Entry). entry.version ≤ versions.old.now) dst.old.history }
-    ensures ok { IfOk result (λ answer. (s : Settings) (desk : Desk) (files : Option (List File)) → src.old.block ≡ s.block → dst.old.block ≡ s.block → versions.old.pace ≡ s.pace → src.old.logs ≡ logs_of spec.Src desk.jobs → dst.old.logs ≡ logs_of spec.Dst desk.jobs →
-        commit s (state_of clients.old src.old dst.old versions.old desk files) number ≡ moved (Ok answer) (state_of clients.new src.new dst.new versions.new desk files)) }
+    requires src { AllByRecursion (λ (entry : Entry). entry.version ≤ versions.old.now)
+        src.old.history }
+    requires dst { AllByRecursion (λ (entry : Entry). entry.version ≤ versions.old.now)
+        dst.old.history }
+    ensures ok { IfOk result
+        (λ answer. (settings : Settings) (desk : Desk) (files : Option (List File))
+        → src.old.block ≡ settings.block → dst.old.block ≡ settings.block
+        → versions.old.pace ≡ settings.pace
+        → src.old.logs ≡ logs_of spec.Src desk.jobs → dst.old.logs ≡ logs_of spec.Dst desk.jobs
+        → commit settings (state_of clients.old src.old dst.old versions.old desk files) number
+        ≡ moved (Ok answer) (state_of clients.new src.new dst.new versions.new desk files)) }
     ensures blocks { (src.new.block ≡ src.old.block) × (dst.new.block ≡ dst.old.block) }
     ensures logs { (src.new.logs ≡ src.old.logs) × (dst.new.logs ≡ dst.old.logs) }
     ensures pace { versions.new.pace ≡ versions.old.pace }
-    ensures err { OnErr result ((clients.new ≡ clients.old) × (src.new ≡ src.old) × (dst.new ≡ dst.old) × (versions.new ≡ versions.old)) }
+    ensures err { OnErr result
+        ((clients.new ≡ clients.old) × (src.new ≡ src.old) × (dst.new ≡ dst.old)
+        × (versions.new ≡ versions.old)) }
     ensures fault { IfErr result (λ fault. fault ≡ StepFault.NoMemory) }
 {
     match side_of(clients, number) {
@@ -116,16 +126,24 @@ fn try_client(
     versions: &mut Versions,
 ) -> Result<Option<Outcome>, AllocError>
     requires pace { 1 ≤ versions.old.pace }
-    requires past { AllByRecursion (λ (entry : Entry). entry.version ≤ versions.old.now) db.old.history }
+    requires past { AllByRecursion (λ (entry : Entry). entry.version ≤ versions.old.now)
+        db.old.history }
     ensures ok { IfOk result (λ outcome. MatchOption outcome
         ((tried_in clients.old number db.old versions.old ≡ None)
         × (clients.new ≡ clients.old) × (db.new ≡ db.old) × (versions.new ≡ versions.old))
         (λ outcome. (client : ClientState)
         × (tried_in clients.old number db.old versions.old
-        ≡ Some (record { outcome = outcome; client = client; history = db.new.history; time = versions.new.now }))
+        ≡ Some (record {
+          outcome = outcome;
+          client = client;
+          history = db.new.history;
+          time = versions.new.now;
+        }))
         × (clients.new ≡ put_client clients.old number client))) }
-    ensures same { (db.new.block ≡ db.old.block) × (db.new.logs ≡ db.old.logs) × (versions.new.pace ≡ versions.old.pace) }
-    ensures err { OnErr result ((clients.new ≡ clients.old) × (db.new ≡ db.old) × (versions.new ≡ versions.old)) }
+    ensures same { (db.new.block ≡ db.old.block) × (db.new.logs ≡ db.old.logs)
+        × (versions.new.pace ≡ versions.old.pace) }
+    ensures err { OnErr result
+        ((clients.new ≡ clients.old) × (db.new ≡ db.old) × (versions.new ≡ versions.old)) }
 {
     if number == 0 {
         return Ok(None);

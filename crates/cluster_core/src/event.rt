@@ -39,8 +39,8 @@ pub enum Answer {
 /// Why a step was refused.
 #[derive(Clone, Copy, Debug, PartialEq, Eq)]
 pub enum StepFault {
-    /// The file store failed. A put that failed has left the old files or the new ones; the operator
-    /// stays at its command.
+    /// The file store failed. A put that failed has left the old files or the new ones; the
+    /// operator stays at its command.
     VaultFault,
     /// The step would take a version past the greatest one; the version is the newest.
     VersionsSpent { version: u64 },

@@ -24,7 +24,12 @@ pub struct Job {
 impl Model for Job {
     ghost Value = { spec.Job };
 
-    ghost view = { λ j. record { tag = j.tag; side = j.side; container = j.container; hand = j.hand } };
+    ghost view = { λ job. record {
+      tag = job.tag;
+      side = job.side;
+      container = job.container;
+      hand = job.hand;
+    } };
 }
 
 impl Job {
@@ -135,7 +140,8 @@ impl Jobs {
 
 /// The place of the newest job with the tag.
 pub(crate) fn newest(jobs: &[Job], tag: &Text) -> Option<usize>
-    ensures { result ≡ option_map (λ (found : spec.Found). found.place) (spec.newest tag.now jobs.now) }
+    ensures { result
+        ≡ option_map (λ (found : spec.Found). found.place) (spec.newest tag.now jobs.now) }
 {
     let mut found = None;
     'jobs: for (place, job) in jobs.iter().enumerate() {

@@ -24,11 +24,17 @@ pub fn begin_log(
 ) -> Result<u64, AllocError>
     requires src { log_of src.old.logs number ≡ None }
     requires dst { log_of dst.old.logs number ≡ None }
-    ensures version { IfOk result (λ version. next_version versions.old.now versions.old.pace ≡ Ok version) }
+    ensures version { IfOk result
+        (λ version. next_version versions.old.now versions.old.pace ≡ Ok version) }
     ensures time { IfOk result (λ version. versions.new ≡ record versions.old { now = version }) }
-    ensures src { IfOk result (λ version. src.new ≡ spec.logs_more side sides.Src (record { job = number; ranges = ranges.now; begin = version }) src.old) }
-    ensures dst { IfOk result (λ version. dst.new ≡ spec.logs_more side sides.Dst (record { job = number; ranges = ranges.now; begin = version }) dst.old) }
-    ensures err { OnErr result ((src.new ≡ src.old) × (dst.new ≡ dst.old) × (versions.new ≡ versions.old)) }
+    ensures src { IfOk result
+        (λ version. src.new ≡ spec.logs_more side sides.Src
+        (record { job = number; ranges = ranges.now; begin = version }) src.old) }
+    ensures dst { IfOk result
+        (λ version. dst.new ≡ spec.logs_more side sides.Dst
+        (record { job = number; ranges = ranges.now; begin = version }) dst.old) }
+    ensures err { OnErr result
+        ((src.new ≡ src.old) × (dst.new ≡ dst.old) × (versions.new ≡ versions.old)) }
 {
     match side {
         Side::Src => match src.add_log(versions, number, ranges) {

@@ -1,15 +1,16 @@
-ghost use Rattle.std.specs.Prelude.{◌≡◌, ◌+◌, ◌<◌, ◌≤◌, List, [], length, Some, Ok, Err, map, slice_get, ◌⊎◌, IfOk, IfErr, OnErr, IsErrOf};
+ghost use Rattle.std.specs.Prelude.{◌≡◌, ◌+◌, ◌<◌, ◌≤◌, List, [], length, Some, Ok, Err, map};
+ghost use Rattle.std.specs.Prelude.{slice_get, ◌⊎◌, IfOk, IfErr, OnErr, IsErrOf};
 ghost use Rattle.std.specs.Option.{option_copied};
 ghost use Rattle.fb_outside.specs.Faults.{Counts};
 ghost use Rattle.client_core.specs.Clients.{ClientState, new_client};
 ghost use Rattle.cluster_core.specs.Jobs as spec;
 ghost use Rattle.cluster_core.specs.State.{State, opening};
-ghost use Rattle.cluster_core.specs.Moves.{Luck, Fine, moved};
+ghost use Rattle.cluster_core.specs.Moves.{Fine, moved};
 ghost use Rattle.cluster_core.specs.Commands.{gone_on};
 ghost use Rattle.cluster_core.specs.Step.{Step, begin, commit, step};
 ghost use Rattle.cluster_core.specs.Plans.{IsPlan, IsSafe};
 ghost use Rattle.cluster_core.specs.Sound.{Sound};
-ghost use Rattle.cluster_core.specs.World.{CommitSteps, IsListed, IsFirstName};
+ghost use Rattle.cluster_core.specs.World.{CommitSteps, OperatorSteps, IsListed, IsFirstName};
 
 use crate::clients::{begin_client, commit_client, new_clients};
 use crate::logging::{begin_log, end_log};
@@ -73,16 +74,27 @@ impl<V: Vault> Model for World<V> {
 
     ghost coded = { Prim.hlevel (codes, allowed_code) };
 
-    ghost view = { λ w. record { workload = w.workload; state = state_of w.clients.items w.src w.dst w.versions (record { jobs = w.jobs.items; place = w.place; tickets = w.tickets }) (V.files w.vault); calls = V.calls w.vault; faults = V.faults w.vault } };
+    ghost view = { λ world. record {
+      workload = world.workload;
+      state = state_of world.clients.items world.src world.dst world.versions
+          (record { jobs = world.jobs.items; place = world.place; tickets = world.tickets })
+          (V.files world.vault);
+      calls = V.calls world.vault;
+      faults = V.faults world.vault;
+    } };
 
-    ghost invariant = { λ w. IsWorld w.workload w.src w.dst w.versions (state_of w.clients.items w.src w.dst w.versions (record { jobs = w.jobs.items; place = w.place; tickets = w.tickets }) (V.files w.vault)) };
+    ghost invariant = { λ world. IsWorld world.workload world.src world.dst world.versions
+        (state_of world.clients.items world.src world.dst world.versions
+        (record { jobs = world.jobs.items; place = world.place; tickets = world.tickets })
+        (V.files world.vault)) };
 }
 
 impl<V: Vault> World<V> {
     /// The world in which a workload begins, over a vault with whatever files.
     pub fn open(alloc: Global, workload: &Workload, vault: V) -> Result<World<V>, OpenFault<V>>
         ensures workload { IfOk result (λ world. world.workload ≡ workload.now) }
-        ensures opening { IfOk result (λ world. world.state ≡ opening workload.now (V.files vault)) }
+        ensures opening { IfOk result
+            (λ world. world.state ≡ opening workload.now (V.files vault)) }
         ensures calls { IfOk result (λ world. world.calls ≡ V.calls vault) }
         ensures faults { IfOk result (λ world. world.faults ≡ V.faults vault) }
         ensures sound { IfOk result (λ world. Sound world.workload world.state) }
@@ -130,15 +142,16 @@ impl<V: Vault> World<V> {
         self.workload.operator.as_slice().get(self.place)
     }
 
-    /// Makes one step. After a fault the world is as it was, but for the file that a failed put may have
-    /// left in the store.
+    /// Makes one step. After a fault the world is as it was, but for the file that a failed put may
+    /// have left in the store.
     pub fn step(&mut self, event: &Event) -> Result<Answer, StepFault>
         ensures step { Step self.old.workload self.old.state event.now result self.new.state }
         ensures workload { self.new.workload ≡ self.old.workload }
         // A step makes at most one call on the store.
         ensures calls { self.new.calls ≤ self.old.calls + 1 }
         // The store's count of faults rose where the step was refused for it.
-        ensures faults { Counts self.old.faults self.new.faults (IsErrOf result StepFault.VaultFault) }
+        ensures faults { Counts self.old.faults self.new.faults
+            (IsErrOf result StepFault.VaultFault) }
         ensures sound { Sound self.new.workload self.new.state }
     {
         let answer = match event {
@@ -154,7 +167,8 @@ impl<V: Vault> World<V> {
     pub fn into_parts(self) -> Parts<V>
         ensures src { result.src ≡ self.state.src }
         ensures dst { result.dst ≡ self.state.dst }
-        ensures outcomes { result.outcomes ≡ map (λ (client : ClientState). client.outcomes) self.state.clients }
+        ensures outcomes { result.outcomes
+            ≡ map (λ (client : ClientState). client.outcomes) self.state.clients }
         ensures jobs { result.jobs ≡ map spec.job_told self.state.jobs }
         ensures end { result.end ≡ self.state.time }
         ensures files { V.files result.vault ≡ self.state.files }
@@ -198,7 +212,8 @@ impl<V: Vault> World<V> {
     }
 
     fn commit(&mut self, number: u32) -> Result<Answer, StepFault>
-        ensures step { CommitSteps self.old.workload.settings self.old.state number result self.new.state }
+        ensures step { CommitSteps self.old.workload.settings self.old.state number result
+            self.new.state }
         ensures workload { self.new.workload ≡ self.old.workload }
         ensures calls { self.new.calls ≡ self.old.calls }
         ensures faults { self.new.faults ≡ self.old.faults }
@@ -222,10 +237,11 @@ impl<V: Vault> World<V> {
 
     /// Makes the step of the operator's next command.
     fn operate(&mut self) -> Result<Answer, StepFault>
-        ensures step { (luck : Luck) × (step self.old.workload self.old.state Event.Command luck ≡ moved result self.new.state) }
+        ensures step { OperatorSteps self.old result self.new }
         ensures workload { self.new.workload ≡ self.old.workload }
         ensures calls { self.new.calls ≤ self.old.calls + 1 }
-        ensures faults { Counts self.old.faults self.new.faults (IsErrOf result StepFault.VaultFault) }
+        ensures faults { Counts self.old.faults self.new.faults
+            (IsErrOf result StepFault.VaultFault) }
     {
         match self.plan()? {
             Plan::Nothing => Ok(Answer::Nothing),
@@ -267,10 +283,11 @@ impl<V: Vault> World<V> {
         requires plan { IsPlan self.old.workload self.old.state (Plan.Put filing) }
         requires safe { IsSafe self.old.state (Plan.Put filing) }
         requires room { self.old.state.place < length self.old.workload.operator }
-        ensures step { (luck : Luck) × (step self.old.workload self.old.state Event.Command luck ≡ moved result self.new.state) }
+        ensures step { OperatorSteps self.old result self.new }
         ensures workload { self.new.workload ≡ self.old.workload }
         ensures calls { self.new.calls ≤ self.old.calls + 1 }
-        ensures faults { Counts self.old.faults self.new.faults (IsErrOf result StepFault.VaultFault) }
+        ensures faults { Counts self.old.faults self.new.faults
+            (IsErrOf result StepFault.VaultFault) }
     {
         match self
             .vault
@@ -292,7 +309,8 @@ impl<V: Vault> World<V> {
         requires plan { IsPlan self.old.workload self.old.state (Plan.Abort place) }
         requires safe { IsSafe self.old.state (Plan.Abort place) }
         requires room { self.old.state.place < length self.old.workload.operator }
-        ensures step { step self.old.workload self.old.state Event.Command (Fine []) ≡ moved (Ok Answer.Done) self.new.state }
+        ensures step { step self.old.workload self.old.state Event.Command (Fine [])
+            ≡ moved (Ok Answer.Done) self.new.state }
         ensures workload { self.new.workload ≡ self.old.workload }
         ensures calls { self.new.calls ≡ self.old.calls }
         ensures faults { self.new.faults ≡ self.old.faults }
@@ -311,12 +329,14 @@ impl<V: Vault> World<V> {
         container: Text,
         ranges: Ranges,
     ) -> Result<Answer, StepFault>
-        requires plan { IsPlan self.old.workload self.old.state (Plan.Open tag side container ranges) }
+        requires plan { IsPlan self.old.workload self.old.state
+            (Plan.Open tag side container ranges) }
         requires room { self.old.state.place < length self.old.workload.operator }
-        ensures step { (luck : Luck) × (step self.old.workload self.old.state Event.Command luck ≡ moved result self.new.state) }
+        ensures step { OperatorSteps self.old result self.new }
         ensures workload { self.new.workload ≡ self.old.workload }
         ensures calls { self.new.calls ≤ self.old.calls + 1 }
-        ensures faults { Counts self.old.faults self.new.faults (IsErrOf result StepFault.VaultFault) }
+        ensures faults { Counts self.old.faults self.new.faults
+            (IsErrOf result StepFault.VaultFault) }
     {
         match self.least_name(&container) {
             Ok(Some(name)) => {
@@ -331,11 +351,13 @@ impl<V: Vault> World<V> {
     // The least name among a container's files, by one list of them.
     fn least_name(&mut self, container: &Text) -> Result<Option<Text>, StepFault>
         ensures listed { IfOk result (IsListed self.old.state container.now) }
-        ensures fault { IfErr result (λ fault. (fault ≡ StepFault.VaultFault) ⊎ (fault ≡ StepFault.NoMemory)) }
+        ensures fault { IfErr result
+            (λ fault. (fault ≡ StepFault.VaultFault) ⊎ (fault ≡ StepFault.NoMemory)) }
         ensures state { self.new.state ≡ self.old.state }
         ensures workload { self.new.workload ≡ self.old.workload }
         ensures calls { self.new.calls ≤ self.old.calls + 1 }
-        ensures faults { Counts self.old.faults self.new.faults (IsErrOf result StepFault.VaultFault) }
+        ensures faults { Counts self.old.faults self.new.faults
+            (IsErrOf result StepFault.VaultFault) }
     {
         match list_names(self.alloc, &mut self.vault, container) {
             Ok(names) => {
@@ -356,10 +378,11 @@ impl<V: Vault> World<V> {
         container: Text,
         ranges: &Ranges,
     ) -> Result<Answer, StepFault>
-        requires plan { IsPlan self.old.workload self.old.state (Plan.Open tag side container ranges.now) }
+        requires plan { IsPlan self.old.workload self.old.state
+            (Plan.Open tag side container ranges.now) }
         requires empty { IsListed self.old.state container None }
         requires room { self.old.state.place < length self.old.workload.operator }
-        ensures step { (luck : Luck) × (step self.old.workload self.old.state Event.Command luck ≡ moved result self.new.state) }
+        ensures step { OperatorSteps self.old result self.new }
         ensures workload { self.new.workload ≡ self.old.workload }
         ensures calls { self.new.calls ≡ self.old.calls }
         ensures faults { self.new.faults ≡ self.old.faults }
@@ -414,7 +437,8 @@ fn next_place(place: usize, count: usize) -> usize
 
 // A copy of the workload, and its clients at the start of their scripts.
 fn copies(alloc: Global, workload: &Workload) -> Result<(Workload, Vec<Client>), AllocError>
-    ensures { IfOk result (λ p. (p.0 ≡ workload.now) × (p.1.items ≡ map new_client workload.now.clients)) }
+    ensures { IfOk result
+        (λ both. (both.0 ≡ workload.now) × (both.1.items ≡ map new_client workload.now.clients)) }
 {
     let clients = new_clients(alloc, workload.clients.as_slice())?;
     let workload = workload.copy()?;

@@ -1,4 +1,6 @@
-ghost use Rattle.std.specs.Prelude.{◌≡◌};
+ghost use Rattle.std.specs.Prelude.{◌≡◌, ◌+◌, ◌≤◌, List, Some};
+ghost use Rattle.fb_outside.specs.declared.File.{File};
+ghost use Rattle.restore_read.specs.Reading.{most_calls};
 ghost use Rattle.fb_cli.specs.Faults.{status_of};
 ghost use Rattle.fb_cli.specs.Replays.{Leaves};
 ghost use Rattle.fb_cli.specs.Restores.{Restores};
@@ -16,6 +18,8 @@ pub fn restore_words<V: Vault>(alloc: Global, vault: V, container: &Text, versio
     ensures restores { Restores container.now version (V.files vault) (V.files result.vault) result.report result.fault }
     ensures status { result.status ≡ status_of result.fault }
     ensures store { Leaves (V.files vault) (V.files result.vault) (V.faults vault) (V.faults result.vault) result.fault }
+    ensures called { (files : List File) → V.files vault ≡ Some files →
+        V.calls result.vault ≤ V.calls vault + most_calls container.now files version }
 {
     restore_law();
     let mut vault = vault;
