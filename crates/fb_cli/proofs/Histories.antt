@@ -17,9 +17,11 @@ use Rattle.container_view.specs.Honest.{IsFaithfulStore}
 use Rattle.report_text.specs.declared.RunReport.{RunReport}
 use Rattle.fb_outside.specs.declared.File.{File}
 use Rattle.workload_text.specs.declared.ScheduleLine.{ScheduleLine}
-use Rattle.report_text.specs.declared.EventLine.{EventLine}
-use Rattle.fb_cli.specs.Runs.{Tells, HasHistory, AreFaithful, IsRun}
-use Rattle.fb_cli.proofs.Kept.{kept_elsewhere}
+use Rattle.fb_cli.specs.Runs.{Tells, schedule_of, HasHistory, AreFaithful, IsRun}
+use Rattle.fb_cli.specs.Causes.{RoseInEach}
+use Rattle.fb_cli.specs.Outside.{store_change}
+use Rattle.fb_cli.proofs.KeptElsewhere.{kept_elsewhere}
+use Rattle.fb_cli.proofs.Counting.{causes_of}
 
 -- the client of a script that stands in the list of scripts
 record Found (clients : List ClientState) (place : ℕ) (script : ClientScript) : Type 0 where
@@ -95,8 +97,8 @@ are_faithful law p w files' report h src dst jobs end stored files f place told 
 
 -- ---- the report
 
-told_by : (workload begun ended : Workload) (files files' : Option (List File)) (final : State) (report : RunReport) (schedule : List ScheduleLine) → FaithfulLaw → begun ≡ workload → Tells workload (opening workload files) report.lines final → map (λ (line : EventLine). line.line) report.lines ≡ schedule → schedule ≡ workload.schedule → ended ≡ begun → report.src ≡ final.src → report.dst ≡ final.dst → report.outcomes ≡ map (λ (client : ClientState). client.outcomes) final.clients → report.jobs ≡ map job_told final.jobs → report.end ≡ final.time → files' ≡ final.files → Sound ended final → IsRun workload files files' report
-told_by workload begun ended files files' final report schedule law b r l s e src dst outcomes jobs end stored sound =
+told_by : (workload begun ended : Workload) (files files' : Option (List File)) (f f' : ℕ) (final : State) (report : RunReport) (schedule : List ScheduleLine) → FaithfulLaw → begun ≡ workload → Tells workload (opening workload files) report.lines final → schedule_of report.lines ≡ schedule → RoseInEach report.lines f f' → schedule ≡ workload.schedule → ended ≡ begun → report.src ≡ final.src → report.dst ≡ final.dst → report.outcomes ≡ map (λ (client : ClientState). client.outcomes) final.clients → report.jobs ≡ map job_told final.jobs → report.end ≡ final.time → files' ≡ final.files → Sound ended final → IsRun workload (store_change files files' f f') report
+told_by workload begun ended files files' f f' final report schedule law b r l k s e src dst outcomes jobs end stored sound =
     let h : Sound workload final = subst (λ (x : Workload). Sound x final) (e ∙ b) sound in
     record {
       told = record {
@@ -113,11 +115,14 @@ told_by workload begun ended files files' final report schedule law b r l s e sr
       history = has_history workload final report h src dst outcomes end;
       faithful = are_faithful law workload final files' report h src dst jobs end stored;
       elsewhere = kept_elsewhere workload final files files' report r jobs stored;
+      causes = causes_of report.lines f f' k;
     }
 
 -- a run over the whole schedule, told by its report
-pub tells : (workload begun ended : Workload) (files files' : Option (List File)) (old final : State) (report : RunReport) (schedule : List ScheduleLine) → FaithfulLaw → begun ≡ workload → old ≡ opening workload files → Tells begun old report.lines final → map (λ (line : EventLine). line.line) report.lines ≡ schedule → schedule ≡ workload.schedule → ended ≡ begun → report.src ≡ final.src → report.dst ≡ final.dst → report.outcomes ≡ map (λ (client : ClientState). client.outcomes) final.clients → report.jobs ≡ map job_told final.jobs → report.end ≡ final.time → files' ≡ final.files → Sound ended final → IsRun workload files files' report
-tells workload begun ended files files' old final report schedule law b o r l s e src dst outcomes jobs end stored sound =
-    told_by workload begun ended files files' final report schedule law b
+pub tells : (workload begun ended : Workload) (files files' : Option (List File)) (f f' a c : ℕ) (old final : State) (report : RunReport) (schedule : List ScheduleLine) → FaithfulLaw → begun ≡ workload → old ≡ opening workload files → a ≡ f → f' ≡ c → Tells begun old report.lines final → schedule_of report.lines ≡ schedule → RoseInEach report.lines a c → schedule ≡ workload.schedule → ended ≡ begun → report.src ≡ final.src → report.dst ≡ final.dst → report.outcomes ≡ map (λ (client : ClientState). client.outcomes) final.clients → report.jobs ≡ map job_told final.jobs → report.end ≡ final.time → files' ≡ final.files → Sound ended final → IsRun workload (store_change files files' f f') report
+tells workload begun ended files files' f f' a c old final report schedule law b o before after r l k s e src dst outcomes jobs end stored sound =
+    told_by workload begun ended files files' f f' final report schedule law b
     (subst (λ (x : Workload). Tells x (opening workload files) report.lines final) b (subst (λ (w : State). Tells begun w report.lines final) o r))
-    l s e src dst outcomes jobs end stored sound
+    l
+    (subst (λ (n : ℕ). RoseInEach report.lines n f') before (subst (λ (n : ℕ). RoseInEach report.lines a n) (sym after) k))
+    s e src dst outcomes jobs end stored sound

@@ -1,6 +1,9 @@
+pub mod Counting
 pub mod Turns
-pub mod Kept
+pub mod Starved
+pub mod KeptElsewhere
 pub mod Histories
+pub mod Fronts
 pub mod Texts
 pub mod Replaying
 pub mod Restoring

@@ -1,33 +1,38 @@
 -- What a replay comes to, by what was read and played.
-use Rattle.std.specs.Prelude.{◌≡◌, ℕ, ◌≤◌, List, Option, Some, None, Result, Ok, Err, ◌⊎◌, ◌↔◌, is_some, IsSome, IfSome}
-use Rattle.std.proofs.Common.{ap, sym, ◌∙◌, arith, subst, inl, inr}
-use Rattle.fb_bytes.specs.Bytes.{Bytes}
+use Rattle.std.specs.Prelude.{◌≡◌, ℕ, List, Option, Some, None, Result, Ok, Err, ◌⊎◌, ◌↔◌, IsSome, IfSome}
+use Rattle.std.proofs.Common.{ap, sym, subst, inl, inr}
 use Rattle.fb_outside.specs.declared.File.{File}
 use Rattle.fb_outside.specs.Faults.{Rose}
+use Rattle.fb_cli.specs.Causes.{RoseInEach}
+use Rattle.fb_cli.specs.Faults.{last_fault}
+use Rattle.fb_cli.specs.Fronts.{LeavesFront}
+use Rattle.fb_cli.specs.Outside.{Stream, Store, store_change}
+use Rattle.fb_cli.proofs.Counting.{each_last}
+use Rattle.fb_cli.proofs.Fronts.{owes}
+use Rattle.report_text.specs.declared.EventLine.{EventLine}
 use Rattle.workload_text.specs.declared.Workload.{Workload}
 use Rattle.workload_text.specs.Grammar.{Built, what, built}
 use Rattle.report_text.specs.declared.Report.{Report}
 use Rattle.fb_cli.specs.declared.fault.Fault.{Fault}
 use Rattle.fb_cli.specs.declared.fault.Fault.TheVariants.{SourceFault, SinkFault, VaultFault, NotRestorable, Damaged, VersionsSpent, NoMemory, NoContainer, Missing, NotBuilt}
-use Rattle.cluster_core.specs.State.{State, opening}
 use Rattle.fb_cli.specs.Runs.{IsRunReport, fault_in}
-use Rattle.fb_cli.specs.Replays.{IsPlayed, AnswersText, IsOfReplay, IsUnplayed, Replays, Leaves, SaysText, ReadsText}
+use Rattle.fb_cli.specs.Replays.{IsPlayed, AnswersText, IsOfReplay, IsUnplayed, IsSaid, Replays, OwesStore, SaysText, ReadsText}
 use Rattle.fb_cli.proofs.Texts.{no_fault}
 
 says_ok : (read : Result Built ℕ) (workload : Workload) → SaysText read (Ok workload) → read ≡ Ok (what workload)
 says_ok (Ok b) workload h = ap Ok h
 says_ok (Err line) workload h = absurd h
 
-text_says : (left left' : Option Bytes) (f f' : ℕ) (workload : Workload) → ReadsText left left' f f' (Ok workload) → (bytes : Bytes) → left ≡ Some bytes → built bytes ≡ Ok (what workload)
-text_says left left' f f' workload h bytes e =
+text_says : (source : Stream) (workload : Workload) → ReadsText source (Ok workload) → IsSaid source.before workload
+text_says source workload h bytes e =
     elim (h.answer bytes e) [
       | inl p ↦ cc
       | inr q ↦ elim q [ inl p ↦ cc | inr s ↦ says_ok (built bytes) workload s ]
     ]
 
-run_of : (left : Option Bytes) (files files' : Option (List File)) (workload : Workload) (report : Option Report) → ((bytes : Bytes) → left ≡ Some bytes → built bytes ≡ Ok (what workload)) → IfSome report (IsRunReport workload files files') → IfSome report (λ r. (w : Workload) × ((bytes : Bytes) → left ≡ Some bytes → built bytes ≡ Ok (what w)) × IsRunReport w files files' r)
-run_of left files files' workload None t h = tt
-run_of left files files' workload (Some report) t h = (workload, t, h)
+run_of : (source : Stream) (store : Store) (workload : Workload) (report : Option Report) → IsSaid source.before workload → IfSome report (IsRunReport workload store) → IfSome report (λ r. (w : Workload) × IsSaid source.before w × IsRunReport w store r)
+run_of source store workload None t h = tt
+run_of source store workload (Some report) t h = (workload, t, h)
 
 played_kind : (fault : Option Fault) → IsPlayed fault ⊎ (fault ≡ Some NoMemory) → IsOfReplay fault
 played_kind None k = tt
@@ -45,14 +50,15 @@ played_kind (Some (NotBuilt line)) k = tt
 not_source : (fault : Option Fault) → IsPlayed fault ⊎ (fault ≡ Some NoMemory) → fault ≡ Some SourceFault → ⊥
 not_source fault k e = elim k [ inl p ↦ subst IsPlayed e p | inr q ↦ cc ]
 
-pub played : (left left' : Option Bytes) (f f' : ℕ) (files files' : Option (List File)) (workload : Workload) (report : Option Report) (fault : Option Fault) → ReadsText left left' f f' (Ok workload) → IsPlayed fault ⊎ (fault ≡ Some NoMemory) → (IsSome report ↔ IsPlayed fault) → IfSome report (IsRunReport workload files files') → IfSome report (λ r. fault ≡ fault_in r) → Replays left left' f f' files files' report fault
-played left left' f f' files files' workload report fault h kinds reported run last = record {
+pub played : (source : Stream) (store : Store) (workload : Workload) (report : Option Report) (fault : Option Fault) → ReadsText source (Ok workload) → IsPlayed fault ⊎ (fault ≡ Some NoMemory) → (IsSome report ↔ IsPlayed fault) → IfSome report (IsRunReport workload store) → IfSome report (λ r. fault ≡ fault_in r) → LeavesFront workload store → Replays source store report fault
+played source store workload report fault h kinds reported run last front = record {
   reported = reported;
-  run = run_of left files files' workload report (text_says left left' f f' workload h) run;
+  run = run_of source store workload report (text_says source workload h) run;
   last = last;
+  front = inr (workload, text_says source workload h, front);
   kind = played_kind fault kinds;
-  answer = λ bytes e. inr (subst (λ (r : Result Built ℕ). AnswersText r fault) (sym (text_says left left' f f' workload h bytes e)) kinds);
-  count = no_fault (fault ≡ Some SourceFault) (Ok workload ≡ Err SourceFault) f f' h.count (not_source fault kinds);
+  answer = λ bytes e. inr (subst (λ (r : Result Built ℕ). AnswersText r fault) (sym (text_says source workload h bytes e)) kinds);
+  count = no_fault (fault ≡ Some SourceFault) (Ok workload ≡ Err SourceFault) source.faults_before source.faults_after h.count (not_source fault kinds);
   read = λ bytes e le r. h.read bytes e le tt;
 }
 
@@ -71,10 +77,9 @@ played_not_idle (Some NoContainer) k u = u
 played_not_idle (Some (Missing name)) k u = u
 played_not_idle (Some (NotBuilt line)) k u = elim k [ inl e ↦ e | inr e ↦ cc ]
 
--- what a run leaves, from its opening state on
-pub ran : (workload : Workload) (files files' : Option (List File)) (f f' a c : ℕ) (old new : State) (fault : Option Fault) → old ≡ opening workload files → files' ≡ new.files → is_some new.files ≡ is_some old.files → a ≡ f → f' ≡ c → a ≤ c → (fault ≡ Some VaultFault → Rose a c) → IsPlayed fault ⊎ (fault ≡ Some NoMemory) → Leaves files files' f f' fault
-ran workload files files' f f' a c old new fault o e t b k l r p = record {
-  telling = ap is_some e ∙ t ∙ ap (λ (w : State). is_some w.files) o;
-  count = record { later = omega arith; rose = λ q. subst (λ (x : ℕ). Rose x f') b (subst (λ (y : ℕ). Rose a y) (sym k) (r q)) };
-  same = λ u. absurd (played_not_idle fault p u);
-}
+-- what a run owes to the store, by the answer of its last event
+pub ran : (workload : Workload) (files files' : Option (List File)) (f f' a c : ℕ) (lines : List EventLine) (fault : Option Fault) → LeavesFront workload (store_change files files' f f') → a ≡ f → f' ≡ c → RoseInEach lines a c → (fault ≡ Some VaultFault → last_fault lines ≡ Some VaultFault) → IsPlayed fault ⊎ (fault ≡ Some NoMemory) → OwesStore (store_change files files' f f') fault
+ran workload files files' f f' a c lines fault front before after k last kinds =
+    owes workload (store_change files files' f f') fault front
+    (λ q. subst (λ (n : ℕ). Rose n f') before (subst (λ (n : ℕ). Rose a n) (sym after) (each_last lines a c k (last q))))
+    (played_not_idle fault kinds)

@@ -18,9 +18,10 @@ use Rattle.report_text.specs.declared.Report.{Report}
 use Rattle.report_text.specs.declared.Report.TheVariants as reports
 use Rattle.fb_cli.specs.declared.fault.Fault.{Fault}
 use Rattle.fb_cli.specs.declared.fault.Fault.TheVariants.{VaultFault, NoMemory}
+use Rattle.fb_cli.specs.Outside.{store_change}
 use Rattle.fb_cli.specs.Restores.{refusal_of, HasCause, IsOfRestore, Restores}
 
-module _ (container : Bytes) (version : ℕ) (files files' : Option (List File)) (law : RestoreLaw) (ordered : (told : List File) → files ≡ Some told → AreFiles told) (same : files' ≡ files) where
+module _ (container : Bytes) (version : ℕ) (files files' : Option (List File)) (f f' : ℕ) (law : RestoreLaw) (ordered : (told : List File) → files ≡ Some told → AreFiles told) (same : files' ≡ files) where
   one_set : (a b : Loaded) (reading : Result Loaded ViewFault) → reading ≡ Ok a → reading ≡ Ok b → a ≡ b
   one_set a b (Ok set) p q = let l : set ≡ a = cc in let r : set ≡ b = cc in sym l ∙ r
   one_set a b (Err fault) p q = cc
@@ -28,7 +29,7 @@ module _ (container : Bytes) (version : ℕ) (files files' : Option (List File))
   no_cause : (set : Loaded) (reading : Result Loaded ViewFault) → reading ≡ Ok set → HasCause reading None
   no_cause set reading e = subst (λ (r : Result Loaded ViewFault). HasCause r None) (sym e) (inl refl)
 
-  pub restored : (pairs : List Pair) → AreRising pairs → ((told : List File) → files ≡ Some told → Loads container told version (value_of pairs)) → Restores container version files files' (Some (reports.Restored (record { version = version; pairs = pairs }))) None
+  pub restored : (pairs : List Pair) → AreRising pairs → ((told : List File) → files ≡ Some told → Loads container told version (value_of pairs)) → Restores container version (store_change files files' f f') (Some (reports.Restored (record { version = version; pairs = pairs }))) None
   restored pairs rising read = record {
     reported = (λ _. refl, λ _. refl);
     meaning = λ told e.
@@ -66,7 +67,7 @@ module _ (container : Bytes) (version : ℕ) (files files' : Option (List File))
   not_refused fault set (Ok loaded) (inr (inr e)) is = cc
   not_refused fault set (Err found) (inr (inr e)) is = cc
 
-  pub refused_so : (fault : ViewFault) → ((told : List File) → files ≡ Some told → Fails fault (loaded_of (inside container told) version)) → Restores container version files files' None (Some (refusal_of fault))
+  pub refused_so : (fault : ViewFault) → ((told : List File) → files ≡ Some told → Fails fault (loaded_of (inside container told) version)) → Restores container version (store_change files files' f f') None (Some (refusal_of fault))
   refused_so fault fails = record {
     reported = (λ s. cc, λ e. cc);
     meaning = λ told e. tt;
@@ -79,7 +80,7 @@ module _ (container : Bytes) (version : ℕ) (files files' : Option (List File))
   }
 
   -- the same where report and refusal have names
-  pub refused_as : (report : Option Report) (told : Option Fault) (refusal : Fault) (fault : ViewFault) → report ≡ None → told ≡ Some refusal → refusal ≡ refusal_of fault → ((told : List File) → files ≡ Some told → Fails fault (loaded_of (inside container told) version)) → Restores container version files files' report told
+  pub refused_as : (report : Option Report) (told : Option Fault) (refusal : Fault) (fault : ViewFault) → report ≡ None → told ≡ Some refusal → refusal ≡ refusal_of fault → ((told : List File) → files ≡ Some told → Fails fault (loaded_of (inside container told) version)) → Restores container version (store_change files files' f f') report told
   refused_as report told refusal fault r t e fails =
-      subst (λ (x : Option Report). Restores container version files files' x told) (sym r)
-      (subst (λ (x : Option Fault). Restores container version files files' None x) (sym (t ∙ ap Some e)) (refused_so fault fails))
+      subst (λ (x : Option Report). Restores container version (store_change files files' f f') x told) (sym r)
+      (subst (λ (x : Option Fault). Restores container version (store_change files files' f f') None x) (sym (t ∙ ap Some e)) (refused_so fault fails))

@@ -9,13 +9,14 @@ use Rattle.workload_text.specs.Grammar.{Built, what, built, whole, most_bytes}
 use Rattle.workload_text.specs.Lines.{numbered}
 use Rattle.workload_text.specs.Texts.{lines_of}
 use Rattle.fb_cli.specs.declared.fault.Fault.TheVariants.{SourceFault, NoMemory, NotBuilt}
+use Rattle.fb_cli.specs.Outside.{stream_change}
 use Rattle.fb_cli.specs.Replays.{SaysText, ReadsText}
 
 -- a count that isn't to have risen
 pub no_fault : (P Q : Type 0) (f f' : ℕ) → Counts f f' Q → (P → ⊥) → Counts f f' P
 no_fault P Q f f' c n = record { later = c.later; rose = λ p. absurd (n p) }
 
-pub failed_text : (left left' : Option Bytes) (f f' : ℕ) (Q : Type 0) → Counts f f' Q → Q → ReadsText left left' f f' (Err SourceFault)
+pub failed_text : (left left' : Option Bytes) (f f' : ℕ) (Q : Type 0) → Counts f f' Q → Q → ReadsText (stream_change left left' f f') (Err SourceFault)
 failed_text left left' f f' Q c q = record {
   answer = λ bytes e. inl refl;
   kind = tt;
@@ -29,7 +30,7 @@ says_not_built read line e = subst (λ (r : Result Built ℕ). SaysText r (Err (
 too_long : (text : Bytes) → most_bytes < length text → built text ≡ Err 0
 too_long text h = ap (λ b. cond b (Err 0) (whole (length (lines_of text) + 1) (numbered 1 (lines_of text)))) (lt-ltb _ _ h)
 
-pub long_text : (left left' : Option Bytes) (f f' : ℕ) (Q : Type 0) → Counts f f' Q → ((bytes : Bytes) → left ≡ Some bytes → most_bytes < length bytes) → ReadsText left left' f f' (Err (NotBuilt 0))
+pub long_text : (left left' : Option Bytes) (f f' : ℕ) (Q : Type 0) → Counts f f' Q → ((bytes : Bytes) → left ≡ Some bytes → most_bytes < length bytes) → ReadsText (stream_change left left' f f') (Err (NotBuilt 0))
 long_text left left' f f' Q c h = record {
   answer = λ bytes e. inr (inr (says_not_built (built bytes) 0 (too_long bytes (h bytes e))));
   kind = tt;
@@ -37,7 +38,7 @@ long_text left left' f f' Q c h = record {
   read = λ bytes e le r. let l : most_bytes < length bytes = h bytes e in absurd (omega arith);
 }
 
-pub starved_text : (left left' : Option Bytes) (f f' : ℕ) (Q : Type 0) → Counts f f' Q → ReadsText left left' f f' (Err NoMemory)
+pub starved_text : (left left' : Option Bytes) (f f' : ℕ) (Q : Type 0) → Counts f f' Q → ReadsText (stream_change left left' f f') (Err NoMemory)
 starved_text left left' f f' Q c = record {
   answer = λ bytes e. inr (inl refl);
   kind = tt;
@@ -45,7 +46,7 @@ starved_text left left' f f' Q c = record {
   read = λ bytes e le r. absurd r;
 }
 
-pub built_text : (left left' : Option Bytes) (f f' : ℕ) (Q : Type 0) (text : Bytes) (workload : Workload) → Counts f f' Q → ((bytes : Bytes) → left ≡ Some bytes → (text ≡ bytes) × (left' ≡ Some [])) → built text ≡ Ok (what workload) → ReadsText left left' f f' (Ok workload)
+pub built_text : (left left' : Option Bytes) (f f' : ℕ) (Q : Type 0) (text : Bytes) (workload : Workload) → Counts f f' Q → ((bytes : Bytes) → left ≡ Some bytes → (text ≡ bytes) × (left' ≡ Some [])) → built text ≡ Ok (what workload) → ReadsText (stream_change left left' f f') (Ok workload)
 built_text left left' f f' Q text workload c h b = record {
   answer = λ bytes e. let k = h bytes e in inr (inr (subst (λ (t : Bytes). SaysText (built t) (Ok workload)) k.0 (subst (λ (r : Result Built ℕ). SaysText r (Ok workload)) (sym b) refl)));
   kind = tt;
@@ -53,7 +54,7 @@ built_text left left' f f' Q text workload c h b = record {
   read = λ bytes e le r. let k = h bytes e in k.1;
 }
 
-pub bad_text : (left left' : Option Bytes) (f f' : ℕ) (Q : Type 0) (text : Bytes) (line : ℕ) → Counts f f' Q → ((bytes : Bytes) → left ≡ Some bytes → (text ≡ bytes) × (left' ≡ Some [])) → built text ≡ Err line → ReadsText left left' f f' (Err (NotBuilt line))
+pub bad_text : (left left' : Option Bytes) (f f' : ℕ) (Q : Type 0) (text : Bytes) (line : ℕ) → Counts f f' Q → ((bytes : Bytes) → left ≡ Some bytes → (text ≡ bytes) × (left' ≡ Some [])) → built text ≡ Err line → ReadsText (stream_change left left' f f') (Err (NotBuilt line))
 bad_text left left' f f' Q text line c h b = record {
   answer = λ bytes e. let k = h bytes e in inr (inr (subst (λ (t : Bytes). SaysText (built t) (Err (NotBuilt line))) k.0 (says_not_built (built text) line b)));
   kind = tt;

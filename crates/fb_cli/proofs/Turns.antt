@@ -1,8 +1,7 @@
 -- Runs, an event line at a time.
-use Rattle.std.specs.Prelude.{◌≡◌, ℕ, zero, suc, ◌+◌, ◌-◌, ◌<◌, ◌≤◌, List, [], ◌∷◌, ◌++◌, map, length, take, slice_get, Option, Some, None, Result, Ok, Err, ◌⊎◌, refl}
-use Rattle.std.proofs.Common.{ap, sym, ◌∙◌, arith, subst, get_or, inl, inr}
+use Rattle.std.specs.Prelude.{◌≡◌, ℕ, suc, ◌+◌, ◌-◌, ◌<◌, List, [], ◌∷◌, ◌++◌, map, length, take, slice_get, Option, Some, None, Result, Ok, Err, refl}
+use Rattle.std.proofs.Common.{ap, sym, ◌∙◌, arith, subst, get_or}
 use Rattle.std.proofs.lemmas.List.{take_more}
-use Rattle.fb_outside.specs.Faults.{Rose, Counts}
 use Rattle.workload_text.specs.declared.ScheduleLine.{ScheduleLine}
 use Rattle.workload_text.specs.declared.Workload.{Workload}
 use Rattle.cluster_core.specs.declared.Answer.{Answer}
@@ -11,9 +10,8 @@ use Rattle.cluster_core.specs.declared.StepFault.TheVariants as steps
 use Rattle.cluster_core.specs.State.{State}
 use Rattle.report_text.specs.declared.EventLine.{EventLine}
 use Rattle.fb_cli.specs.declared.fault.Fault.{Fault}
-use Rattle.fb_cli.specs.declared.fault.Fault.TheVariants.{VaultFault}
 use Rattle.fb_cli.specs.Faults.{fault_of, last_fault}
-use Rattle.fb_cli.specs.Runs.{TellsStep, Tells}
+use Rattle.fb_cli.specs.Runs.{TellsStep, Tells, schedule_of}
 use Rattle.fb_cli.specs.Replays.{IsPlayed}
 
 -- ---- one more line
@@ -32,7 +30,7 @@ run_more p q old middle new lines all line a e r k =
     subst (λ (xs : List EventLine). Tells p old xs new) (sym a) (Tells-snoc p old middle new lines line r (subst (λ (x : Workload). TellsStep x middle line new) e k))
 
 -- the schedule's lines so far
-pub lines_more : (lines all : List EventLine) (told : EventLine) (schedule : List ScheduleLine) (i : ℕ) (d : ScheduleLine) → all ≡ lines ++ told ∷ [] → map (λ (line : EventLine). line.line) lines ≡ take i schedule → i < length schedule → told.line ≡ get_or schedule i d → map (λ (line : EventLine). line.line) all ≡ take (i + 1) schedule
+pub lines_more : (lines all : List EventLine) (told : EventLine) (schedule : List ScheduleLine) (i : ℕ) (d : ScheduleLine) → all ≡ lines ++ told ∷ [] → schedule_of lines ≡ take i schedule → i < length schedule → told.line ≡ get_or schedule i d → schedule_of all ≡ take (i + 1) schedule
 lines_more lines all told schedule i d a h lt e =
     ap (map (λ (line : EventLine). line.line)) a
     ∙ map-snoc (λ (line : EventLine). line.line) lines told
@@ -81,25 +79,3 @@ played_fault p old new lines all fault r a f = subst IsPlayed (sym (f ∙ ap las
 
 pub same_last : (lines all : List EventLine) (fault found : Option Fault) → all ≡ lines → fault ≡ last_fault all → fault ≡ found → last_fault lines ≡ found
 same_last lines all fault found a f e = ap last_fault (sym a) ∙ sym f ∙ e
-
--- ---- counts over two calls
-
-less_or_same : (a b : ℕ) → a ≤ b → (a < b) ⊎ (a ≡ b)
-less_or_same zero zero h = inr refl
-less_or_same zero (suc b) h = inl (omega arith)
-less_or_same (suc a) zero h = absurd (omega arith)
-less_or_same (suc a) (suc b) h = elim (less_or_same a b (omega arith)) [ inl l ↦ inl (omega arith) | inr e ↦ inr (ap suc e) ]
-
-rose_before : (a b c : ℕ) → a ≤ b → b ≤ c → Rose b c → Rose a c
-rose_before a b c h k r =
-    elim r [
-      | inl l ↦ inl (omega arith)
-      | inr e ↦ elim (less_or_same a b h) [ inl l ↦ inl (omega arith) | inr s ↦ inr (s ∙ e) ]
-    ]
-
--- the last step rose where it failed, and so did the whole run
-pub rose_more : (a b c : ℕ) (lines all : List EventLine) (line : EventLine) → all ≡ lines ++ line ∷ [] → a ≤ b → Counts b c (fault_of line.answer ≡ Some VaultFault) → last_fault all ≡ Some VaultFault → Rose a c
-rose_more a b c lines all line e h k q = rose_before a b c h k.later (k.rose (sym (last-snoc lines line) ∙ ap last_fault (sym e) ∙ q))
-
-pub later_more : (a b c : ℕ) (Q : Type 0) → a ≤ b → Counts b c Q → a ≤ c
-later_more a b c Q h k = let l = k.later in omega arith

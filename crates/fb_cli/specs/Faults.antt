@@ -1,5 +1,6 @@
 -- The refusals of a command: their statuses and their lines.
-use Rattle.std.specs.Prelude.{ℕ, List, [], ◌∷◌, ◌++◌, Option, Some, None, Result, Ok, Err, codes, decimal}
+use Rattle.std.specs.Prelude.{ℕ, List, [], ◌∷◌, ◌++◌, Option, Some, None}
+use Rattle.std.specs.Prelude.{Result, Ok, Err, codes, decimal}
 use Rattle.fb_bytes.specs.Bytes.{Bytes}
 use Rattle.cluster_core.specs.declared.Answer.{Answer}
 use Rattle.cluster_core.specs.declared.StepFault.{StepFault}
@@ -8,7 +9,9 @@ use Rattle.report_text.specs.declared.EventLine.{EventLine}
 use Rattle.report_text.specs.Faults.{file_fault_words}
 use Rattle.report_text.specs.Lines.{behind}
 use Rattle.fb_cli.specs.declared.fault.Fault.{Fault}
-use Rattle.fb_cli.specs.declared.fault.Fault.TheVariants.{SourceFault, SinkFault, VaultFault, NotRestorable, Damaged, VersionsSpent, NoMemory, NoContainer, Missing, NotBuilt}
+use Rattle.fb_cli.specs.declared.fault.Fault.TheVariants.{SourceFault, SinkFault, VaultFault}
+use Rattle.fb_cli.specs.declared.fault.Fault.TheVariants.{NotRestorable, Damaged, VersionsSpent}
+use Rattle.fb_cli.specs.declared.fault.Fault.TheVariants.{NoMemory, NoContainer, Missing, NotBuilt}
 
 -- the status that a command ends with
 abbrev pub status_of : Option Fault → ℕ
@@ -35,13 +38,18 @@ refusal_line None = []
 refusal_line (Some SourceFault) = codes "refused source-fault\n"
 refusal_line (Some SinkFault) = []
 refusal_line (Some VaultFault) = codes "refused vault-fault\n"
-refusal_line (Some (VersionsSpent version)) = codes "refused versions-spent " ++ decimal version ++ codes "\n"
-refusal_line (Some (NotRestorable low high)) = codes "refused not-restorable " ++ (number_or_none low ++ (codes " " ++ (number_or_none high ++ codes "\n")))
-refusal_line (Some (Damaged name fault)) = codes "refused damaged " ++ (name ++ behind (file_fault_words fault))
+refusal_line (Some (VersionsSpent version)) =
+    codes "refused versions-spent " ++ decimal version ++ codes "\n"
+refusal_line (Some (NotRestorable low high)) =
+    codes "refused not-restorable "
+    ++ (number_or_none low ++ (codes " " ++ (number_or_none high ++ codes "\n")))
+refusal_line (Some (Damaged name fault)) =
+    codes "refused damaged " ++ (name ++ behind (file_fault_words fault))
 refusal_line (Some NoMemory) = []
 refusal_line (Some NoContainer) = codes "refused no-container\n"
 refusal_line (Some (Missing name)) = codes "refused missing " ++ (name ++ codes "\n")
-refusal_line (Some (NotBuilt line)) = codes "refused not-built " ++ decimal line ++ codes "\n"
+refusal_line (Some (NotBuilt line)) =
+    codes "refused not-built " ++ decimal line ++ codes "\n"
 
 -- the refusal of a command whose last step was answered so
 abbrev pub fault_of : Result Answer StepFault → Option Fault

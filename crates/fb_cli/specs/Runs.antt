@@ -1,5 +1,6 @@
 -- What the report of a run says.
-use Rattle.std.specs.Prelude.{◌≡◌, ◌≢◌, ℕ, suc, List, [], ◌∷◌, map, Option, Some, None, Err, option_map, slice_get}
+use Rattle.std.specs.Prelude.{◌≡◌, ◌≢◌, ℕ, suc, List, [], ◌∷◌, map, Option, Some, None, Err}
+use Rattle.std.specs.Prelude.{option_map, slice_get}
 use Rattle.std.specs.List.{AllByRecursion}
 use Rattle.fb_bytes.specs.Bytes.{Bytes}
 use Rattle.fb_outside.specs.declared.File.{File}
@@ -28,7 +29,9 @@ use Rattle.report_text.specs.declared.EventLine.{EventLine}
 use Rattle.report_text.specs.declared.RunReport.{RunReport}
 use Rattle.report_text.specs.declared.Report.{Report}
 use Rattle.report_text.specs.declared.Report.TheVariants as reports
+use Rattle.fb_cli.specs.Causes.{HaveCauses}
 use Rattle.fb_cli.specs.Faults.{last_fault}
+use Rattle.fb_cli.specs.Outside.{Store}
 use Rattle.fb_cli.specs.declared.fault.Fault.{Fault}
 
 -- the event of a schedule's line
@@ -39,66 +42,99 @@ event_of lines.Op = events.Command
 
 -- the kind of the operator's next command in this state, where one is left
 abbrev pub next_kind : Workload → State → Option CommandKind
-next_kind p w = option_map kind_of (slice_get p.operator w.place)
+next_kind workload state = option_map kind_of (slice_get workload.operator state.place)
 
 -- the command that a schedule's line makes a step of; a client's line makes none
 abbrev pub command_of : Workload → State → ScheduleLine → Option CommandKind
-command_of p w (lines.Begin client) = None
-command_of p w (lines.Commit client) = None
-command_of p w lines.Op = next_kind p w
+command_of workload state (lines.Begin client) = None
+command_of workload state (lines.Commit client) = None
+command_of workload state lines.Op = next_kind workload state
 
--- An event line tells a step of the machine, for which there was memory, and the command that it was of.
-pub record TellsStep (p : Workload) (old : State) (line : EventLine) (new : State) : Type 0 where
-  pub step : Step p old (event_of line.line) line.answer new
+-- An event line tells a step of the machine, for which there was memory, and the command that it
+-- was of.
+pub record TellsStep
+    (workload : Workload)
+    (old : State)
+    (line : EventLine)
+    (new : State) : Type 0 where
+  pub step : Step workload old (event_of line.line) line.answer new
   pub memory : line.answer ≢ Err NoMemory
-  pub command : line.command ≡ command_of p old line.line
+  pub command : line.command ≡ command_of workload old line.line
 
 -- From old, the event lines tell a run of the machine that ends in new.
 abbrev pub Tells : Workload → State → List EventLine → State → Type 0
-Tells p old [] new = old ≡ new
-Tells p old (line ∷ rest) new = (middle : State) × TellsStep p old line middle × Tells p middle rest new
+Tells workload old [] new = old ≡ new
+Tells workload old (line ∷ rest) new =
+    (middle : State) × TellsStep workload old line middle × Tells workload middle rest new
 
--- The report tells a run of the machine over the workload's schedule, from its opening state on, and the state in which it ended. `files` and `files'` are what the file store tells before and after.
-pub record TellsRun (workload : Workload) (files files' : Option (List File)) (report : RunReport) : Type 0 where
+-- the lines of the schedule that these event lines are of
+abbrev pub schedule_of : List EventLine → List ScheduleLine
+schedule_of told = map (λ (line : EventLine). line.line) told
+
+-- The report tells a run of the machine over the workload's schedule, from its opening state on,
+-- and the state in which it ended.
+pub record TellsRun (workload : Workload) (store : Store) (report : RunReport) : Type 0 where
   pub final : State
-  pub run : Tells workload (opening workload files) report.lines final
-  pub schedule : map (λ (line : EventLine). line.line) report.lines ≡ workload.schedule
+  pub run : Tells workload (opening workload store.before) report.lines final
+  pub schedule : schedule_of report.lines ≡ workload.schedule
   pub src : report.src ≡ final.src
   pub dst : report.dst ≡ final.dst
   pub outcomes : report.outcomes ≡ map (λ (client : ClientState). client.outcomes) final.clients
   pub jobs : report.jobs ≡ map job_told final.jobs
   pub end : report.end ≡ final.time
-  pub stored : files' ≡ final.files
+  pub stored : store.after ≡ final.files
 
--- The histories of a report are right: their entries stand in the order of their versions, and hold of each client exactly the transactions that it committed, each once, in order, with its version and its writes.
+-- The histories of a report are right: their entries stand in the order of their versions, and hold
+-- of each client exactly the transactions that it committed, each once, in order, with its version
+-- and its writes.
 pub record HasHistory (workload : Workload) (report : RunReport) : Type 0 where
   pub src : IsOrdered report.end report.src
   pub dst : IsOrdered report.end report.dst
-  pub clients : (place : ℕ) (script : ClientScript) (outcomes : List Outcome) → slice_get workload.clients place ≡ Some script → slice_get report.outcomes place ≡ Some outcomes → IsLegal (suc place) script.txns outcomes (on_side script.side report.src report.dst) × (entries_by (suc place) (on_side (other_side script.side) report.src report.dst) ≡ [])
+  pub clients : (place : ℕ) (script : ClientScript) (outcomes : List Outcome) →
+      slice_get workload.clients place ≡ Some script →
+      slice_get report.outcomes place ≡ Some outcomes →
+      IsLegal (suc place) script.txns outcomes (on_side script.side report.src report.dst)
+      × (entries_by (suc place) (on_side (other_side script.side) report.src report.dst) ≡ [])
 
--- what a job's container is a backup of, by the report: the history of the job's database, in the job's ranges
+-- what a job's container is a backup of, by the report: the history of the job's database, in the
+-- job's ranges
 abbrev pub source_told : ℕ → RunReport → JobTold → Source
-source_told block report job = record { history = on_side job.side report.src report.dst; now = report.end; ranges = job.ranges; block = block }
+source_told block report job =
+    record {
+      history = on_side job.side report.src report.dst;
+      now = report.end;
+      ranges = job.ranges;
+      block = block;
+    }
 
--- Each version that a job's container advertises restores, from the bytes of the store's files, to what the reported history has at that version in the job's ranges.
+-- Each version that a job's container advertises restores, from the bytes of the store's files, to
+-- what the reported history has at that version in the job's ranges.
 abbrev pub AreFaithful : ℕ → Option (List File) → RunReport → Type 0
-AreFaithful block files' report = (files : List File) → files' ≡ Some files → (place : ℕ) (job : JobTold) → slice_get report.jobs place ≡ Some job → IsFaithfulStore file_grammars (source_told block report job) job.container files
+AreFaithful block after report =
+    (files : List File) → after ≡ Some files →
+    (place : ℕ) (job : JobTold) → slice_get report.jobs place ≡ Some job →
+    IsFaithfulStore file_grammars (source_told block report job) job.container files
 
 -- The files outside the containers of the report's jobs are as they were.
 abbrev pub AreKeptElsewhere : Option (List File) → Option (List File) → RunReport → Type 0
-AreKeptElsewhere files files' report = (name : Bytes) → AllByRecursion (λ (job : JobTold). name_in job.container name ≡ None) report.jobs → told_of files' name ≡ told_of files name
+AreKeptElsewhere before after report =
+    (name : Bytes) →
+    AllByRecursion (λ (job : JobTold). name_in job.container name ≡ None) report.jobs →
+    told_of after name ≡ told_of before name
 
 -- What the report of a run owes to its workload and to the file store.
-pub record IsRun (workload : Workload) (files files' : Option (List File)) (report : RunReport) : Type 0 where
-  pub told : TellsRun workload files files' report
+pub record IsRun (workload : Workload) (store : Store) (report : RunReport) : Type 0 where
+  pub told : TellsRun workload store report
   pub history : HasHistory workload report
-  pub faithful : AreFaithful workload.settings.block files' report
-  pub elsewhere : AreKeptElsewhere files files' report
+  pub faithful : AreFaithful workload.settings.block store.after report
+  pub elsewhere : AreKeptElsewhere store.before store.after report
+  -- each line that says a fault of the store has its cause
+  pub causes : HaveCauses report.lines store.faults_before store.faults_after
 
 -- a report of a run of the workload
-abbrev pub IsRunReport : Workload → Option (List File) → Option (List File) → Report → Type 0
-IsRunReport workload files files' (reports.Run report) = IsRun workload files files' report
-IsRunReport workload files files' (reports.Restored report) = ⊥
+abbrev pub IsRunReport : Workload → Store → Report → Type 0
+IsRunReport workload store (reports.Run report) = IsRun workload store report
+IsRunReport workload store (reports.Restored report) = ⊥
 
 -- the refusal by the answer of a report's last event
 abbrev pub fault_in : Report → Option Fault

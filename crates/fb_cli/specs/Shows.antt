@@ -1,7 +1,7 @@
 -- Which words are a command, and what a command writes.
-use Rattle.std.specs.Prelude.{◌≡◌, ℕ, Bool, false, ◌&&◌, if◌then◌else◌, option_map, List, [], ◌∷◌, ◌++◌, Option, Some, None, codes, ◌⊎◌, MatchBool}
+use Rattle.std.specs.Prelude.{◌≡◌, ◌≤◌, ℕ, false, ◌&&◌, if◌then◌else◌, List, [], ◌∷◌, ◌++◌}
+use Rattle.std.specs.Prelude.{Option, Some, None, codes, ◌⊎◌}
 use Rattle.fb_bytes.specs.Bytes.{Bytes, is_same}
-use Rattle.fb_outside.specs.declared.File.{File}
 use Rattle.fb_outside.specs.Contents.{IsFrontOf}
 use Rattle.fb_outside.specs.Faults.{Rose}
 use Rattle.container_view.specs.Property.{property_of}
@@ -11,49 +11,68 @@ use Rattle.report_text.specs.Reports.{report_text}
 use Rattle.fb_cli.specs.declared.fault.Fault.{Fault}
 use Rattle.fb_cli.specs.declared.fault.Fault.TheVariants.{NotBuilt}
 use Rattle.fb_cli.specs.Faults.{status_of, refusal_line}
+use Rattle.fb_cli.specs.Outside.{Stream, Store, IsLeft}
 use Rattle.fb_cli.specs.Replays.{Replays}
 use Rattle.fb_cli.specs.Restores.{Restores}
 
--- the words of a replay: `replay` alone
-abbrev pub is_replay : List Bytes → Bool
-is_replay [] = false
-is_replay (word ∷ []) = is_same word (codes "replay")
-is_replay (word ∷ second ∷ words) = false
+-- ---- words
+
+-- what words ask for
+pub data Request : Type 0 where
+  Replay : Request
+  Restore : (container : Bytes) (version : ℕ) → Request
+  Unknown : Request
 
 -- a version's word: its number in decimal, at most 2^62
 abbrev pub version_of : Bytes → Option ℕ
 version_of word = property_of word
 
--- the words of a restore: `restore`, a container and a version
-abbrev pub restore_asked : List Bytes → Option (Bytes × ℕ)
-restore_asked [] = None
-restore_asked (word ∷ []) = None
-restore_asked (word ∷ container ∷ []) = None
-restore_asked (word ∷ container ∷ version ∷ []) = if is_same word (codes "restore") && is_container_name container then option_map (λ n. (container, n)) (version_of version) else None
-restore_asked (word ∷ container ∷ version ∷ more ∷ words) = None
+-- a restore of the version, where its word is one
+abbrev pub restore_at : Bytes → Option ℕ → Request
+restore_at container None = Unknown
+restore_at container (Some version) = Restore container version
 
--- A restore of what the words name; the source isn't read.
-pub record IsRestore (container : Bytes) (version : ℕ) (left left' : Option Bytes) (faults faults' : ℕ) (files files' : Option (List File)) (report : Option Report) (fault : Option Fault) : Type 0 where
-  pub restores : Restores container version files files' report fault
-  pub rest : left' ≡ left
-  pub count : faults' ≡ faults
+-- A replay is `replay` alone; a restore is `restore`, a container and a version.
+abbrev pub request_of : List Bytes → Request
+request_of (word ∷ []) = if is_same word (codes "replay") then Replay else Unknown
+request_of (word ∷ container ∷ version ∷ []) =
+    if is_same word (codes "restore") && is_container_name container
+    then restore_at container (version_of version)
+    else Unknown
+request_of words = Unknown
+
+-- ---- commands
+
+-- A restore; the source isn't read.
+pub record IsRestore
+    (container : Bytes)
+    (version : ℕ)
+    (source : Stream)
+    (store : Store)
+    (report : Option Report)
+    (fault : Option Fault) : Type 0 where
+  pub restores : Restores container version store report fault
+  pub unread : IsLeft source
 
 -- Other words aren't built, whatever the source has; it isn't read.
-pub record Unread (left left' : Option Bytes) (faults faults' : ℕ) (report : Option Report) (fault : Option Fault) : Type 0 where
+pub record IsUnknown
+    (source : Stream)
+    (report : Option Report)
+    (fault : Option Fault) : Type 0 where
   pub refused : fault ≡ Some (NotBuilt 0)
   pub silent : report ≡ None
-  pub rest : left' ≡ left
-  pub count : faults' ≡ faults
+  pub unread : IsLeft source
 
--- what words that aren't a replay come to, by the restore that they ask for
-abbrev pub Otherwise : Option (Bytes × ℕ) → Option Bytes → Option Bytes → ℕ → ℕ → Option (List File) → Option (List File) → Option Report → Option Fault → Type 0
-Otherwise None left left' faults faults' files files' report fault = Unread left left' faults faults' report fault
-Otherwise (Some asked) left left' faults faults' files files' report fault = IsRestore asked.0 asked.1 left left' faults faults' files files' report fault
+-- what is asked for was done
+abbrev pub Does : Request → Stream → Store → Option Report → Option Fault → Type 0
+Does Replay source store report fault = Replays source store report fault
+Does (Restore container version) source store report fault =
+    IsRestore container version source store report fault
+Does Unknown source store report fault = IsUnknown source report fault
 
--- what the command that the words name comes to
-abbrev pub Commands : List Bytes → Option Bytes → Option Bytes → ℕ → ℕ → Option (List File) → Option (List File) → Option Report → Option Fault → Type 0
-Commands words left left' faults faults' files files' report fault = MatchBool (is_replay words) (Replays left left' faults faults' files files' report fault) (Otherwise (restore_asked words) left left' faults faults' files files' report fault)
+-- ---- what is written
 
+-- the text of a report, where there is one
 abbrev pub report_part : Option Report → Bytes
 report_part None = []
 report_part (Some report) = report_text false report
@@ -62,22 +81,38 @@ report_part (Some report) = report_text false report
 abbrev pub shown : Option Report → Option Fault → Bytes
 shown report fault = report_part report ++ refusal_line fault
 
--- all was written
-pub record WritesAll (held held' : Option Bytes) (report : Option Report) (fault : Option Fault) (status : ℕ) : Type 0 where
+-- All was written.
+pub record WritesAll
+    (sink : Stream)
+    (report : Option Report)
+    (fault : Option Fault)
+    (status : ℕ) : Type 0 where
   pub status_is : status ≡ status_of fault
-  pub all : (bytes : Bytes) → held ≡ Some bytes → held' ≡ Some (bytes ++ shown report fault)
+  pub later : sink.faults_before ≤ sink.faults_after
+  pub all : (bytes : Bytes) → sink.before ≡ Some bytes →
+      sink.after ≡ Some (bytes ++ shown report fault)
 
--- the sink failed, and holds a front of it
-pub record SinkFails (held held' : Option Bytes) (faults faults' : ℕ) (report : Option Report) (fault : Option Fault) (status : ℕ) : Type 0 where
+-- The sink failed, and holds a front of it.
+pub record SinkFails
+    (sink : Stream)
+    (report : Option Report)
+    (fault : Option Fault)
+    (status : ℕ) : Type 0 where
   pub status_is : status ≡ 4
-  pub rose : Rose faults faults'
-  pub part : (bytes : Bytes) → held ≡ Some bytes → (front : Bytes) × (held' ≡ Some (bytes ++ front)) × IsFrontOf (shown report fault) front
+  pub later : sink.faults_before ≤ sink.faults_after
+  pub rose : Rose sink.faults_before sink.faults_after
+  pub part : (bytes : Bytes) → sink.before ≡ Some bytes →
+      (front : Bytes)
+      × (sink.after ≡ Some (bytes ++ front))
+      × IsFrontOf (shown report fault) front
 
--- there was no memory for the text, and nothing was written
-pub record WritesNone (held held' : Option Bytes) (status : ℕ) : Type 0 where
+-- There was no memory for the text, and nothing was written.
+pub record WritesNone (sink : Stream) (status : ℕ) : Type 0 where
   pub status_is : status ≡ 12
-  pub same : held' ≡ held
+  pub same : IsLeft sink
 
 -- what a command's end leaves in the sink, and the status
-abbrev pub Shows : Option Bytes → Option Bytes → ℕ → ℕ → Option Report → Option Fault → ℕ → Type 0
-Shows held held' faults faults' report fault status = WritesAll held held' report fault status ⊎ (SinkFails held held' faults faults' report fault status ⊎ WritesNone held held' status)
+abbrev pub Shows : Stream → Option Report → Option Fault → ℕ → Type 0
+Shows sink report fault status =
+    WritesAll sink report fault status
+    ⊎ (SinkFails sink report fault status ⊎ WritesNone sink status)

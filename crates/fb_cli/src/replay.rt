@@ -1,10 +1,13 @@
-ghost use Rattle.std.specs.Prelude.{◌≡◌, ◌≤◌, Option, Some, None, Ok, Err, map, is_some, IfOk, IfSome, IsSome, IsErrOf, IsTrue, ◌↔◌, ◌⊎◌};
-ghost use Rattle.fb_outside.specs.Faults.{Counts, Rose};
+ghost use Rattle.std.specs.Prelude.{◌≡◌, ◌≤◌, Option, Some, None, Ok, Err, map, IfOk, IfSome, IsSome, IsErrOf, IsTrue, OnErr, ◌↔◌, ◌⊎◌};
+ghost use Rattle.fb_outside.specs.Faults.{Counts};
 ghost use Rattle.cluster_core.specs.declared.StepFault.TheVariants.{NoMemory};
-ghost use Rattle.report_text.specs.declared.EventLine.{EventLine};
+ghost use Rattle.cluster_core.specs.Step.{Step};
+ghost use Rattle.fb_cli.specs.Causes.{RoseInEach};
 ghost use Rattle.fb_cli.specs.Faults.{status_of, fault_of, last_fault};
-ghost use Rattle.fb_cli.specs.Runs.{event_of, command_of, next_kind, TellsStep, Tells, IsRunReport, fault_in};
-ghost use Rattle.fb_cli.specs.Replays.{IsPlayed, Replays, Leaves, ReadsText};
+ghost use Rattle.fb_cli.specs.Fronts.{PlaysFront, LeavesFront};
+ghost use Rattle.fb_cli.specs.Outside.{stream_change, store_change};
+ghost use Rattle.fb_cli.specs.Runs.{event_of, command_of, next_kind, schedule_of, TellsStep, Tells, IsRunReport, fault_in};
+ghost use Rattle.fb_cli.specs.Replays.{IsPlayed, Replays, OwesStore, ReadsText};
 
 use crate::fault::{Fault, last_fault};
 use cluster_core::{Answer, Event, StepFault, World, faithful_law};
@@ -28,9 +31,13 @@ pub struct Ended<V> {
 
 /// Plays the workload whose text the source gives, over the files of the vault.
 pub fn replay<S: Source, V: Vault>(alloc: Global, source: &mut S, vault: V) -> Ended<V>
-    ensures replays { Replays (S.left source.old) (S.left source.new) (S.faults source.old) (S.faults source.new) (V.files vault) (V.files result.vault) result.report result.fault }
+    ensures replays { Replays
+        (stream_change (S.left source.old) (S.left source.new) (S.faults source.old) (S.faults source.new))
+        (store_change (V.files vault) (V.files result.vault) (V.faults vault) (V.faults result.vault))
+        result.report
+        result.fault }
     ensures status { result.status ≡ status_of result.fault }
-    ensures store { Leaves (V.files vault) (V.files result.vault) (V.faults vault) (V.faults result.vault) result.fault }
+    ensures store { OwesStore (store_change (V.files vault) (V.files result.vault) (V.faults vault) (V.faults result.vault)) result.fault }
 {
     match read_text(alloc, source) {
         Ok(workload) => play(alloc, &workload, vault),
@@ -40,7 +47,7 @@ pub fn replay<S: Source, V: Vault>(alloc: Global, source: &mut S, vault: V) -> E
 
 // The workload that a source's text says.
 fn read_text<S: Source>(alloc: Global, source: &mut S) -> Result<Workload, Fault>
-    ensures { ReadsText (S.left source.old) (S.left source.new) (S.faults source.old) (S.faults source.new) result }
+    ensures { ReadsText (stream_change (S.left source.old) (S.left source.new) (S.faults source.old) (S.faults source.new)) result }
 {
     let text = match read_all(alloc, source, MOST_BYTES) {
         Ok(text) => text,
@@ -75,10 +82,11 @@ pub fn refused<V: Vault>(fault: Fault, vault: V) -> Ended<V>
 fn play<V: Vault>(alloc: Global, workload: &Workload, vault: V) -> Ended<V>
     ensures fault { IsPlayed result.fault ⊎ (result.fault ≡ Some Fault.NoMemory) }
     ensures reported { IsSome result.report ↔ IsPlayed result.fault }
-    ensures run { IfSome result.report (IsRunReport workload.now (V.files vault) (V.files result.vault)) }
+    ensures run { IfSome result.report (IsRunReport workload.now (store_change (V.files vault) (V.files result.vault) (V.faults vault) (V.faults result.vault))) }
+    ensures front { LeavesFront workload.now (store_change (V.files vault) (V.files result.vault) (V.faults vault) (V.faults result.vault)) }
     ensures last { IfSome result.report (λ report. result.fault ≡ fault_in report) }
     ensures status { result.status ≡ status_of result.fault }
-    ensures store { Leaves (V.files vault) (V.files result.vault) (V.faults vault) (V.faults result.vault) result.fault }
+    ensures store { OwesStore (store_change (V.files vault) (V.files result.vault) (V.faults vault) (V.faults result.vault)) result.fault }
 {
     faithful_law();
     let mut world = match World::open(alloc, workload, vault) {
@@ -115,11 +123,10 @@ fn make_steps<V: Vault>(
     schedule: &[ScheduleLine],
 ) -> Result<Seq<EventLine>, AllocError>
     ensures run { IfOk result (λ lines. Tells world.old.workload world.old.state lines world.new.state) }
-    ensures lines { IfOk result (λ lines. map (λ (line : EventLine). line.line) lines ≡ schedule.now) }
+    ensures lines { IfOk result (λ lines. schedule_of lines ≡ schedule.now) }
+    ensures causes { IfOk result (λ lines. RoseInEach lines world.old.faults world.new.faults) }
+    ensures front { PlaysFront world.old.workload world.old.state schedule.now world.new.state world.old.faults world.new.faults }
     ensures workload { world.new.workload ≡ world.old.workload }
-    ensures telling { is_some world.new.state.files ≡ is_some world.old.state.files }
-    ensures later { world.old.faults ≤ world.new.faults }
-    ensures rose { IfOk result (λ lines. last_fault lines ≡ Some Fault.VaultFault → Rose world.old.faults world.new.faults) }
 {
     let mut lines = Seq::new(alloc);
     for line in schedule {
@@ -134,12 +141,12 @@ fn make_step<V: Vault>(world: &mut World<V>, line: ScheduleLine) -> Result<Event
     ensures step { IfOk result (λ told. TellsStep world.old.workload world.old.state told world.new.state) }
     ensures line { IfOk result (λ told. told.line ≡ line) }
     ensures workload { world.new.workload ≡ world.old.workload }
-    ensures telling { is_some world.new.state.files ≡ is_some world.old.state.files }
     ensures faults { IfOk result (λ told. Counts world.old.faults world.new.faults (fault_of told.answer ≡ Some Fault.VaultFault)) }
+    ensures starved { OnErr result (world.new.state ≡ world.old.state) }
     ensures later { world.old.faults ≤ world.new.faults }
 {
     let command = command_of(world, line);
-    let answer = world.step(&event_of(line));
+    let answer = answer_of(world, line);
     if is_starved(&answer) {
         return Err(AllocError);
     }
@@ -148,6 +155,16 @@ fn make_step<V: Vault>(world: &mut World<V>, line: ScheduleLine) -> Result<Event
         command,
         answer,
     })
+}
+
+// What the step of a schedule's line is answered.
+fn answer_of<V: Vault>(world: &mut World<V>, line: ScheduleLine) -> Result<Answer, StepFault>
+    ensures step { Step world.old.workload world.old.state (event_of line) result world.new.state }
+    ensures workload { world.new.workload ≡ world.old.workload }
+    ensures faults { Counts world.old.faults world.new.faults (IsErrOf result StepFault.VaultFault) }
+    ensures starved { IsErrOf result StepFault.NoMemory → world.new.state ≡ world.old.state }
+{
+    world.step(&event_of(line))
 }
 
 // There was no memory for the step.

@@ -1,7 +1,8 @@
-ghost use Rattle.std.specs.Prelude.{◌≡◌, [], ◌∷◌, Option, option_map, IfOk};
+ghost use Rattle.std.specs.Prelude.{◌≡◌, [], ◌∷◌, Option, Some, None, IfOk, IfSome, IsTrue, ◌↔◌, ◌⊎◌};
 ghost use Rattle.fb_cli.specs.declared.fault.Fault.{Fault};
-ghost use Rattle.fb_cli.specs.Replays.{Leaves};
-ghost use Rattle.fb_cli.specs.Shows.{is_replay, restore_asked, Commands, Shows, shown, report_part};
+ghost use Rattle.fb_cli.specs.Outside.{stream_change, store_change};
+ghost use Rattle.fb_cli.specs.Replays.{OwesStore};
+ghost use Rattle.fb_cli.specs.Shows.{Replay, Restore, Unknown, request_of, Does, Shows, shown, report_part};
 
 use crate::fault::{Fault, push_refusal, status_of};
 use crate::replay::{Ended, refused, replay};
@@ -30,9 +31,17 @@ pub fn top<S: Source, V: Vault, K: Sink>(
     sink: &mut K,
 ) -> Exit<V>
     ensures command { (fault : Option Fault)
-        × Commands words.now (S.left source.old) (S.left source.new) (S.faults source.old) (S.faults source.new) (V.files vault) (V.files result.vault) result.report fault
-        × Leaves (V.files vault) (V.files result.vault) (V.faults vault) (V.faults result.vault) fault
-        × Shows (K.held sink.old) (K.held sink.new) (K.faults sink.old) (K.faults sink.new) result.report fault result.status }
+        × Does (request_of words.now)
+        (stream_change (S.left source.old) (S.left source.new) (S.faults source.old) (S.faults source.new))
+        (store_change (V.files vault) (V.files result.vault) (V.faults vault) (V.faults result.vault))
+        result.report
+        fault
+        × OwesStore (store_change (V.files vault) (V.files result.vault) (V.faults vault) (V.faults result.vault)) fault
+        × Shows
+        (stream_change (K.held sink.old) (K.held sink.new) (K.faults sink.old) (K.faults sink.new))
+        result.report
+        fault
+        result.status }
 {
     let ended = command(alloc, words, source, vault);
     let status = show(alloc, sink, &ended.report, &ended.fault);
@@ -51,8 +60,12 @@ pub fn top<S: Source, V: Vault, K: Sink>(
 
 // The command that the words name.
 fn command<S: Source, V: Vault>(alloc: Global, words: &[Text], source: &mut S, vault: V) -> Ended<V>
-    ensures commands { Commands words.now (S.left source.old) (S.left source.new) (S.faults source.old) (S.faults source.new) (V.files vault) (V.files result.vault) result.report result.fault }
-    ensures store { Leaves (V.files vault) (V.files result.vault) (V.faults vault) (V.faults result.vault) result.fault }
+    ensures does { Does (request_of words.now)
+        (stream_change (S.left source.old) (S.left source.new) (S.faults source.old) (S.faults source.new))
+        (store_change (V.files vault) (V.files result.vault) (V.faults vault) (V.faults result.vault))
+        result.report
+        result.fault }
+    ensures store { OwesStore (store_change (V.files vault) (V.files result.vault) (V.faults vault) (V.faults result.vault)) result.fault }
 {
     if is_replay(words) {
         return replay(alloc, source, vault);
@@ -64,7 +77,7 @@ fn command<S: Source, V: Vault>(alloc: Global, words: &[Text], source: &mut S, v
 }
 
 fn is_replay(words: &[Text]) -> bool
-    ensures { result ≡ is_replay words.now }
+    ensures { IsTrue result ↔ (request_of words.now ≡ Replay) }
 {
     match words {
         [word] => fb_bytes::is_same(word.as_bytes(), b"replay"),
@@ -74,7 +87,8 @@ fn is_replay(words: &[Text]) -> bool
 
 // The container and the version that the words of a restore name.
 fn restore_asked(words: &[Text]) -> Option<(&Text, u64)>
-    ensures { option_map (λ asked. (asked.0.now, asked.1)) result ≡ restore_asked words.now }
+    ensures some { IfSome result (λ asked. request_of words.now ≡ Restore asked.0.now asked.1) }
+    ensures none { result ≡ None → (request_of words.now ≡ Replay) ⊎ (request_of words.now ≡ Unknown) }
 {
     match words {
         [word, container, version] => restore_of(word, container, version),
@@ -83,7 +97,8 @@ fn restore_asked(words: &[Text]) -> Option<(&Text, u64)>
 }
 
 fn restore_of<'a>(word: &Text, container: &'a Text, version: &Text) -> Option<(&'a Text, u64)>
-    ensures { option_map (λ asked. (asked.0.now, asked.1)) result ≡ restore_asked (word.now ∷ container.now ∷ version.now ∷ []) }
+    ensures some { IfSome result (λ asked. request_of (word.now ∷ container.now ∷ version.now ∷ []) ≡ Restore asked.0.now asked.1) }
+    ensures none { result ≡ None → request_of (word.now ∷ container.now ∷ version.now ∷ []) ≡ Unknown }
 {
     if !fb_bytes::is_same(word.as_bytes(), b"restore") || !is_container_name(container.as_bytes()) {
         return None;
@@ -94,7 +109,11 @@ fn restore_of<'a>(word: &Text, container: &'a Text, version: &Text) -> Option<(&
 
 // Writes what a command tells, and answers the status.
 fn show<K: Sink>(alloc: Global, sink: &mut K, report: &Option<Report>, fault: &Option<Fault>) -> u8
-    ensures { Shows (K.held sink.old) (K.held sink.new) (K.faults sink.old) (K.faults sink.new) report.now fault.now result }
+    ensures { Shows
+        (stream_change (K.held sink.old) (K.held sink.new) (K.faults sink.old) (K.faults sink.new))
+        report.now
+        fault.now
+        result }
 {
     match shown(alloc, report, fault) {
         Ok(text) => match write_all(sink, text.as_slice()) {

@@ -14,7 +14,7 @@ use Rattle.report_text.specs.declared.EventLine.{EventLine}
 use Rattle.report_text.specs.declared.RunReport.{RunReport}
 use Rattle.fb_cli.specs.Runs.{Tells, AreKeptElsewhere}
 
-run_kept : (p : Workload) (old new : State) (lines : List EventLine) → Tells p old lines new → KeepsElsewhere old new
+pub run_kept : (p : Workload) (old new : State) (lines : List EventLine) → Tells p old lines new → KeepsElsewhere old new
 run_kept p old new [] r = subst (KeepsElsewhere old) r (kept_same old)
 run_kept p old new (line ∷ lines) r =
     let k = r.1 in

@@ -1,0 +1,112 @@
+-- Fronts of a schedule that were played.
+use Rattle.std.specs.Prelude.{◌≡◌, ℕ, zero, suc, ◌+◌, ◌<◌, ◌≤◌, List, [], ◌∷◌, ◌++◌, length, take, drop, slice_get, Option, Some, is_some, refl}
+use Rattle.std.proofs.Common.{ap, sym, ◌∙◌, arith, subst, get_or}
+use Rattle.std.proofs.lemmas.List.{take-append-drop}
+use Rattle.fb_outside.specs.declared.File.{File}
+use Rattle.fb_outside.specs.Faults.{Rose, Counts}
+use Rattle.workload_text.specs.declared.ScheduleLine.{ScheduleLine}
+use Rattle.workload_text.specs.declared.Workload.{Workload}
+use Rattle.cluster_core.specs.Elsewhere.{told_of, KeepsElsewhere}
+use Rattle.cluster_core.specs.Jobs.{Job}
+use Rattle.cluster_core.specs.Laws.{FaithfulLaw}
+use Rattle.cluster_core.specs.Sound.{Sound}
+use Rattle.cluster_core.specs.State.{State, opening}
+use Rattle.report_text.specs.declared.EventLine.{EventLine}
+use Rattle.fb_cli.specs.Causes.{RoseInEach}
+use Rattle.fb_cli.specs.declared.fault.Fault.{Fault}
+use Rattle.fb_cli.specs.declared.fault.Fault.TheVariants.{VaultFault, NoMemory}
+use Rattle.fb_cli.specs.Faults.{fault_of}
+use Rattle.fb_cli.specs.Fronts.{PlaysFront, LeavesFront}
+use Rattle.fb_cli.specs.Outside.{Store, store_change}
+use Rattle.fb_cli.specs.Replays.{IsUnplayed, OwesStore}
+use Rattle.fb_cli.specs.Runs.{TellsStep, Tells, schedule_of}
+use Rattle.fb_cli.proofs.Counting.{each_later, each_after, each_more, causes_of}
+use Rattle.fb_cli.proofs.KeptElsewhere.{run_kept}
+use Rattle.fb_cli.proofs.Turns.{run_more, lines_more}
+
+-- ---- where the steps end
+
+-- the lines so far
+pub front_at : (p : Workload) (old new : State) (schedule : List ScheduleLine) (i : ℕ) (lines : List EventLine) (a c : ℕ) → Tells p old lines new → schedule_of lines ≡ take i schedule → RoseInEach lines a c → PlaysFront p old schedule new a c
+front_at p old new schedule i lines a c r l k = record {
+  lines = lines;
+  rest = drop i schedule;
+  front = sym (take-append-drop i schedule) ∙ ap (λ (xs : List ScheduleLine). xs ++ drop i schedule) (sym l);
+  run = r;
+  causes = causes_of lines a c k;
+}
+
+-- at a step for which there was no memory
+pub starved_front : (p : Workload) (old middle new : State) (schedule : List ScheduleLine) (i : ℕ) (lines : List EventLine) (a b c : ℕ) → Tells p old lines middle → schedule_of lines ≡ take i schedule → RoseInEach lines a b → new ≡ middle → b ≤ c → PlaysFront p old schedule new a c
+starved_front p old middle new schedule i lines a b c r l k e h =
+    front_at p old new schedule i lines a c (subst (Tells p old lines) (sym e) r) l (each_after lines a b c k h)
+
+-- at a step that there was no memory to note
+pub step_front : (p q : Workload) (old middle new : State) (schedule : List ScheduleLine) (i : ℕ) (d : ScheduleLine) (lines : List EventLine) (line : EventLine) (a b c : ℕ) → q ≡ p → Tells p old lines middle → schedule_of lines ≡ take i schedule → RoseInEach lines a b → TellsStep q middle line new → i < length schedule → line.line ≡ get_or schedule i d → Counts b c (fault_of line.answer ≡ Some VaultFault) → PlaysFront p old schedule new a c
+step_front p q old middle new schedule i d lines line a b c e r l k step lt told counts =
+    front_at p old new schedule (i + 1) (lines ++ line ∷ []) a c
+    (run_more p q old middle new lines (lines ++ line ∷ []) line refl e r step)
+    (lines_more lines (lines ++ line ∷ []) line schedule i d refl l lt told)
+    (each_more lines line a b c k counts)
+
+-- ---- what is left in the store
+
+-- a list of jobs
+abbrev the_jobs : List Job → List Job
+the_jobs jobs = jobs
+
+no_job : (place : ℕ) (job : Job) → slice_get (the_jobs []) place ≡ Some job → ⊥
+no_job zero job e = cc
+no_job (suc n) job e = cc
+
+-- nothing was played
+pub nothing_front : (workload : Workload) (files files' : Option (List File)) (f f' : ℕ) → files' ≡ files → f' ≡ f → LeavesFront workload (store_change files files' f f')
+nothing_front workload files files' f f' same count = record {
+  final = opening workload files;
+  played = record {
+    lines = [];
+    rest = workload.schedule;
+    front = refl;
+    run = refl;
+    causes = causes_of [] f f' (let h : f ≤ f' = omega arith in h);
+  };
+  stored = same;
+  faithful = λ told e place job at. absurd (no_job place job at);
+  elsewhere = λ name o. ap (λ (fs : Option (List File)). told_of fs name) same;
+}
+
+opened_front : (p q : Workload) (old from final : State) (schedule all : List ScheduleLine) (a c f f' : ℕ) → q ≡ p → old ≡ from → schedule ≡ all → a ≡ f → f' ≡ c → PlaysFront q old schedule final a c → PlaysFront p from all final f f'
+opened_front p q old from final schedule all a c f f' b o s before after k =
+    subst (λ (x : Workload). PlaysFront x from all final f f') b
+    (subst (λ (x : State). PlaysFront q x all final f f') o
+    (subst (λ (x : List ScheduleLine). PlaysFront q old x final f f') s
+    (subst (λ (n : ℕ). PlaysFront q old schedule final n f') before
+    (subst (λ (n : ℕ). PlaysFront q old schedule final a n) (sym after) k))))
+
+-- a front was played
+pub leaves_front : (workload begun ended : Workload) (files files' : Option (List File)) (f f' a c : ℕ) (old final : State) (schedule : List ScheduleLine) → FaithfulLaw → begun ≡ workload → old ≡ opening workload files → a ≡ f → f' ≡ c → PlaysFront begun old schedule final a c → schedule ≡ workload.schedule → ended ≡ begun → files' ≡ final.files → Sound ended final → LeavesFront workload (store_change files files' f f')
+leaves_front workload begun ended files files' f f' a c old final schedule law b o before after k s e stored sound =
+    let h : Sound workload final = subst (λ (x : Workload). Sound x final) (e ∙ b) sound in
+    let front : PlaysFront workload (opening workload files) workload.schedule final f f' = opened_front workload begun old (opening workload files) final schedule workload.schedule a c f f' b o s before after k in
+    let kept : KeepsElsewhere (opening workload files) final = run_kept workload (opening workload files) final front.lines front.run in
+    record {
+      final = final;
+      played = front;
+      stored = stored;
+      faithful = λ told e place job at. law workload final told h (sym stored ∙ e) place job at;
+      elsewhere = λ name o. ap (λ (fs : Option (List File)). told_of fs name) stored ∙ kept.same name o;
+    }
+
+-- what a replay owes to the store, by the front that was played
+pub owes : (workload : Workload) (store : Store) (fault : Option Fault) → LeavesFront workload store → (fault ≡ Some VaultFault → Rose store.faults_before store.faults_after) → (IsUnplayed fault → ⊥) → OwesStore store fault
+owes workload store fault k rose made =
+    let kept : KeepsElsewhere (opening workload store.before) k.final = run_kept workload (opening workload store.before) k.final k.played.lines k.played.run in
+    record {
+      telling = ap is_some k.stored ∙ kept.telling;
+      count = record { later = each_later k.played.lines store.faults_before store.faults_after k.played.causes.each; rose = rose };
+      same = λ u. absurd (made u);
+    }
+
+-- the same where there was no memory
+pub starved_owes : (workload : Workload) (store : Store) (fault : Option Fault) → LeavesFront workload store → fault ≡ Some NoMemory → OwesStore store fault
+starved_owes workload store fault k e = owes workload store fault k (λ q. cc) (λ u. subst IsUnplayed e u)

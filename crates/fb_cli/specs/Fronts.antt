@@ -1,0 +1,52 @@
+-- What a replay leaves in the file store wherever it ended.
+use Rattle.std.specs.Prelude.{◌≡◌, ℕ, List, ◌++◌, Option, Some, slice_get}
+use Rattle.fb_bytes.specs.Bytes.{Bytes}
+use Rattle.fb_outside.specs.declared.File.{File}
+use Rattle.container_view.specs.Contents.{file_grammars}
+use Rattle.container_view.specs.Honest.{IsFaithfulStore}
+use Rattle.workload_text.specs.declared.ScheduleLine.{ScheduleLine}
+use Rattle.workload_text.specs.declared.Workload.{Workload}
+use Rattle.cluster_core.specs.Elsewhere.{told_of, IsOutside}
+use Rattle.cluster_core.specs.Jobs.{Job}
+use Rattle.cluster_core.specs.State.{State, history_on, opening}
+use Rattle.cluster_core.specs.Sound.{source_of}
+use Rattle.report_text.specs.declared.EventLine.{EventLine}
+use Rattle.fb_cli.specs.Causes.{HaveCauses}
+use Rattle.fb_cli.specs.Outside.{Store}
+use Rattle.fb_cli.specs.Runs.{Tells, schedule_of}
+
+-- From old, the machine went through a front of this schedule, and came to new. `before` and
+-- `after` are the store's counts of faults.
+pub record PlaysFront
+    (workload : Workload)
+    (old : State)
+    (schedule : List ScheduleLine)
+    (new : State)
+    (before after : ℕ) : Type 0 where
+  pub lines : List EventLine
+  pub rest : List ScheduleLine
+  pub front : schedule ≡ schedule_of lines ++ rest
+  pub run : Tells workload old lines new
+  pub causes : HaveCauses lines before after
+
+-- In this state each version that a job's container advertises restores, from the bytes of the
+-- store's files, to what the job's history has at that version.
+abbrev pub AreFaithfulIn : ℕ → Option (List File) → State → Type 0
+AreFaithfulIn block after state =
+    (files : List File) → after ≡ Some files →
+    (place : ℕ) (job : Job) → slice_get state.jobs place ≡ Some job →
+    IsFaithfulStore file_grammars
+    (source_of block state.time (history_on job.side state) job)
+    job.container
+    files
+
+-- The store is as a run over a front of the workload's schedule left it: the containers of its jobs
+-- are faithful, and all other files are as they were.
+pub record LeavesFront (workload : Workload) (store : Store) : Type 0 where
+  pub final : State
+  pub played : PlaysFront workload (opening workload store.before) workload.schedule final
+      store.faults_before store.faults_after
+  pub stored : store.after ≡ final.files
+  pub faithful : AreFaithfulIn workload.settings.block store.after final
+  pub elsewhere : (name : Bytes) → IsOutside final.jobs name →
+      told_of store.after name ≡ told_of store.before name
