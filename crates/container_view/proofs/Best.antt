@@ -53,10 +53,10 @@ module _ {A : Type 0} (passes : A → Bool) (beats : A → A → Bool) where
 
 -- ---- the order of ends and names
 
-first_is : (m n : ℕ) (x y : Bytes) → comes_first m x n y ≡ true → (n < m) ⊎ ((m ≡ n) × (is_below x y ≡ true))
+pub first_is : (m n : ℕ) (x y : Bytes) → comes_first m x n y ≡ true → (n < m) ⊎ ((m ≡ n) × (is_below x y ≡ true))
 first_is m n x y h = ⊎_elim (λ l. inl (ltb-true n m l)) (λ e. let p = and_parts (m == n) (is_below x y) e in inr (eqb-true m n p.0, p.1)) (or_cases (nat_lt n m) (m == n && is_below x y) h)
 
-is_first : (m n : ℕ) (x y : Bytes) → (n < m) ⊎ ((m ≡ n) × (is_below x y ≡ true)) → comes_first m x n y ≡ true
+pub is_first : (m n : ℕ) (x y : Bytes) → (n < m) ⊎ ((m ≡ n) × (is_below x y ≡ true)) → comes_first m x n y ≡ true
 is_first m n x y h = ⊎_elim (λ l. or_left _ _ (lt-ltb n m l)) (λ e. or_right _ _ (and_from _ _ (eq-eqb m n e.0) e.1)) h
 
 first_trans : (l m n : ℕ) (x y z : Bytes) → comes_first l x m y ≡ true → comes_first m y n z ≡ true → comes_first l x n z ≡ true

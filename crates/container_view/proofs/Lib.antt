@@ -18,3 +18,6 @@ pub mod Stripped
 pub mod Reading
 pub mod Rows
 pub mod Sets
+pub mod Begun
+pub mod Runs
+pub mod Bests

@@ -1,5 +1,5 @@
 -- What names tell: the best log by one pass from the left, and chains.
-use Rattle.std.proofs.Common.{◌≡◌, ℕ, zero, suc, ◌-◌, ◌+◌, ◌<◌, ◌≤◌, Bool, true, false, cond, ◌&&◌, ◌||◌, ◌==◌, max, min, is_some, List, [], ◌∷◌, ◌++◌, map, Option, Some, None, option_map, if◌then◌else◌, refl, sym, ap, ◌∙◌, nat_le, nat_lt, arith, append_assoc, IfSome}
+use Rattle.std.proofs.Common.{◌≡◌, ℕ, zero, suc, ◌-◌, ◌+◌, ◌<◌, ◌≤◌, Bool, true, false, cond, ◌&&◌, ◌||◌, ◌==◌, max, min, is_some, List, [], ◌∷◌, ◌++◌, map, Option, Some, None, option_map, if◌then◌else◌, refl, sym, ap, ◌∙◌, nat_le, nat_lt, arith, append_assoc}
 use Rattle.std.proofs.lemmas.Bool.{false_from_ne_true, lt-leb, lt-ltb, ltb-true}
 use Rattle.std.proofs.lemmas.Grind.{flat_map-append}
 use Rattle.std.proofs.lemmas.List.{append-nil, map-append}
@@ -13,18 +13,19 @@ use Rattle.mutations.proofs.Basics.{not_both}
 use Rattle.container_view.specs.Folder.{LogFile, ManifestFile, Folder}
 use Rattle.container_view.specs.Chain.{LogLink, comes_first, has_version, log_beats, best_log, links, chain}
 use Rattle.container_view.specs.Advertised.{gives, manifest_beats, chosen}
-use Rattle.container_view.specs.Bounds.{Bounds, last_end, reached, is_given, given, wider, given_by}
+use Rattle.container_view.specs.Bounds.{Bounds, reached, is_given, given, wider, given_by}
 use Rattle.container_view.specs.Files.{Grammars, as_log, as_manifest, range_files, log_files, manifest_files, unreliable_of}
-use Rattle.container_view.specs.Names.{Link, as_named_log, logs_named, as_named_manifest, manifests_named, folder_named, manifest_name, link_of, named_links, chain_named, AreNamesOf, NamesLaw, seen, first_of, better_log, seen_manifest, better_manifest, given_named}
+use Rattle.container_view.specs.Names.{Link, as_named_log, logs_named, as_named_manifest, manifests_named, folder_named, manifest_name, link_of, named_links, chain_named, AreNamesOf, NamesLaw, seen, first_of, seen_manifest, better_manifest, given_named}
+use Rattle.container_view.specs.declared.logs.Run.{Run}
+use Rattle.container_view.specs.Listed.{reach_in}
 use Rattle.container_view.proofs.Basics.{bind_some}
-use Rattle.container_view.proofs.Chains.{best_log_is}
 use Rattle.container_view.proofs.Best.{IsOrder, by_end_and_name}
 use Rattle.container_view.proofs.Whole.{chain_law}
-use Rattle.container_view.proofs.Reached.{reach_law, reached_next, best_within}
+use Rattle.container_view.proofs.Reached.{reach_law}
 
 -- ---- the best of a list with one element more at its end
 
-abbrev joined : {A : Type 0} → (A → A → Bool) → Option A → A → A
+abbrev pub joined : {A : Type 0} → (A → A → Bool) → Option A → A → A
 joined beats None x = x
 joined beats (Some y) x = if beats x y then x else y
 
@@ -38,7 +39,7 @@ module _ {A : Type 0} (passes : A → Bool) (beats : A → A → Bool) (order : 
       go false true p q = ap (λ t. cond t y z) q ∙ sym (ap (λ t. cond t x y) p)
       go false false p q = ap (λ t. cond t y z) q ∙ sym (ap (λ t. cond t x z) (false_from_ne_true (beats x z) (λ h. not_both (order.up x y z h q) p)))
 
-  best_last : (xs : List A) (x : A) → best_of passes beats (xs ++ x ∷ []) ≡ cond (passes x) (Some (joined beats (best_of passes beats xs) x)) (best_of passes beats xs)
+  pub best_last : (xs : List A) (x : A) → best_of passes beats (xs ++ x ∷ []) ≡ cond (passes x) (Some (joined beats (best_of passes beats xs) x)) (best_of passes beats xs)
   best_last [] x = refl
   best_last (z ∷ xs) x = ap (λ o. cond (passes z) (Some (better_of beats z o)) o) (best_last xs x) ∙ go (passes z) (passes x) (best_of passes beats xs)
     where
@@ -48,44 +49,6 @@ module _ {A : Type 0} (passes : A → Bool) (beats : A → A → Bool) (order : 
       go true false o = refl
       go false true o = refl
       go false false o = refl
-
--- ---- the best log among names
-
-logs_last : (names : List Bytes) (name : Bytes) (said : Name) → name_of name ≡ said → logs_named (names ++ name ∷ []) ≡ logs_named names ++ as_named_log name said
-logs_last names name said e =
-    flat_map-append (λ n. as_named_log n (name_of n)) names (name ∷ [])
-    ∙ ap (λ (xs : List LogFile). logs_named names ++ xs) (append-nil (as_named_log name (name_of name)) ∙ ap (as_named_log name) e)
-
-module _ (version : ℕ) (names : List Bytes) (name : Bytes) where
-  abbrev before : Option LogFile
-  before = best_log (logs_named names) version
-
-  no_log : (said : Name) → name_of name ≡ said → as_named_log name said ≡ [] → seen before ≡ seen (best_log (logs_named (names ++ name ∷ [])) version)
-  no_log said e h = ap (λ xs. seen (best_log xs version)) (sym (logs_last names name said e ∙ ap (λ (xs : List LogFile). logs_named names ++ xs) h ∙ append-nil (logs_named names)))
-
-  log_is : (f : LogFile) (o : Option LogFile) (b : Bool) → cond b (first_of f.name f.end (seen o)) (seen o) ≡ seen (cond b (Some (joined log_beats o f)) o)
-  log_is f None true = refl
-  log_is f (Some y) true = go (comes_first f.end f.name y.end y.name)
-    where
-      go : (c : Bool) → cond {A = Option (Bytes × ℕ)} c (Some (f.name, f.end)) (Some (y.name, y.end)) ≡ Some ((cond c f y).name, (cond c f y).end)
-      go true = refl
-      go false = refl
-  log_is f o false = refl
-
-  better_is : (said : Name) → name_of name ≡ said → better_log version (seen before) name said ≡ seen (best_log (logs_named (names ++ name ∷ [])) version)
-  better_is (Log begin end ticket block) e =
-      let f : LogFile = record { name = name; begin = begin; end = end; block = block; content = None } in
-      log_is f before (has_version version f)
-      ∙ ap seen (sym (best_last (has_version version) log_beats (by_end_and_name (λ f. f.end) (λ f. f.name)) (logs_named names) f))
-      ∙ ap (λ xs. seen (best_log xs version)) (sym (logs_last names name (Log begin end ticket block) e))
-  better_is (Range snapshot v ticket block) e = no_log (Range snapshot v ticket block) e refl
-  better_is (Manifest begin end size ticket) e = no_log (Manifest begin end size ticket) e refl
-  better_is Unreliable e = no_log Unreliable e refl
-  better_is Expired e = no_log Expired e refl
-  better_is Other e = no_log Other e refl
-
-  pub better_same : better_log version (seen before) name (name_of name) ≡ seen (best_log (logs_named (names ++ name ∷ [])) version)
-  better_same = better_is (name_of name) refl
 
 -- ---- chains by names
 
@@ -113,7 +76,7 @@ module _ (names : List Bytes) where
 
 -- ---- the names of a folder's files tell this of it
 
-best_map : {A : Type 0} (h : A → A) (p q : A → Bool) (beats : A → A → Bool) → ((x : A) → p (h x) ≡ q x) → ((x y : A) → beats (h x) (h y) ≡ beats x y) → (xs : List A) → best_of p beats (map h xs) ≡ option_map h (best_of q beats xs)
+pub best_map : {A : Type 0} (h : A → A) (p q : A → Bool) (beats : A → A → Bool) → ((x : A) → p (h x) ≡ q x) → ((x y : A) → beats (h x) (h y) ≡ beats x y) → (xs : List A) → best_of p beats (map h xs) ≡ option_map h (best_of q beats xs)
 best_map h p q beats same order [] = refl
 best_map {A = A} h p q beats same order (x ∷ xs) = (λ i. cond (same x i) (Some (better_of beats (h x) (best_map h p q beats same order xs i))) (best_map h p q beats same order xs i)) ∙ go (q x) (best_of q beats xs)
   where
@@ -263,7 +226,7 @@ module _ (folder : Folder) (names : List Bytes) (name : Bytes) where
   same_tests false true f g = g refl
   same_tests false false f g = refl
 
-  gives_by : (version : ℕ) (m : ManifestFile) → gives folder version m ≡ is_given folder m.begin m.end version
+  gives_by : (version : ℕ) (m : ManifestFile) → gives folder version m ≡ is_given (reached folder.logs) folder.unreliable m.begin m.end version
   gives_by version m = ap (λ b. nat_le m.end version && nat_le folder.unreliable m.begin && (b || (m.begin == version && m.end == version))) (same_tests (is_some (chain folder m.begin (version + 1))) (nat_lt version (reached folder.logs m.begin))
       (λ s. let l = (reach_law folder m.begin (version + 1)).0 s in lt-ltb version (reached folder.logs m.begin) (omega arith))
       (λ h. let l = ltb-true version (reached folder.logs m.begin) h in (reach_law folder m.begin (version + 1)).1 (omega arith)))
@@ -277,7 +240,7 @@ module _ (folder : Folder) (names : List Bytes) (name : Bytes) where
       go false = refl
   manifest_is m o false = refl
 
-  better_manifest_is : (version : ℕ) (said : Name) → name_of name ≡ said → better_manifest folder version (seen_manifest (best_so_far version names)) name said ≡ seen_manifest (best_so_far version (names ++ name ∷ []))
+  better_manifest_is : (version : ℕ) (said : Name) → name_of name ≡ said → better_manifest (reached folder.logs) folder.unreliable version (seen_manifest (best_so_far version names)) name said ≡ seen_manifest (best_so_far version (names ++ name ∷ []))
   better_manifest_is version (Manifest begin end size ticket) e =
       let m : ManifestFile = record { name = name; begin = begin; end = end; content = None } in
       ap (λ b. cond b (first_of name end (seen_manifest (best_so_far version names))) (seen_manifest (best_so_far version names))) (sym (gives_by version m))
@@ -290,7 +253,7 @@ module _ (folder : Folder) (names : List Bytes) (name : Bytes) where
   better_manifest_is version Expired e = ap (λ xs. seen_manifest (best_of (gives folder version) manifest_beats xs)) (sym (manifests_same names name Expired e refl))
   better_manifest_is version Other e = ap (λ xs. seen_manifest (best_of (gives folder version) manifest_beats xs)) (sym (manifests_same names name Other e refl))
 
-  pub better_manifest_same : (version : ℕ) → better_manifest folder version (seen_manifest (best_so_far version names)) name (name_of name) ≡ seen_manifest (best_so_far version (names ++ name ∷ []))
+  pub better_manifest_same : (version : ℕ) → better_manifest (reached folder.logs) folder.unreliable version (seen_manifest (best_so_far version names)) name (name_of name) ≡ seen_manifest (best_so_far version (names ++ name ∷ []))
   better_manifest_same version = better_manifest_is version (name_of name) refl
 
   wider_none : (a : Option Bounds) → wider a None ≡ a
@@ -310,7 +273,7 @@ module _ (folder : Folder) (names : List Bytes) (name : Bytes) where
   given_last [] m = wider_none (given folder m)
   given_last (x ∷ xs) m = ap (wider (given folder x)) (given_last xs m) ∙ wider_assoc (given folder x) (given_by folder xs) (given folder m)
 
-  given_is : (said : Name) → name_of name ≡ said → wider (given_by folder (manifests_named names)) (given_named folder name said) ≡ given_by folder (manifests_named (names ++ name ∷ []))
+  given_is : (said : Name) → name_of name ≡ said → wider (given_by folder (manifests_named names)) (given_named (reached folder.logs) folder.unreliable said) ≡ given_by folder (manifests_named (names ++ name ∷ []))
   given_is (Manifest begin end size ticket) e =
       let m : ManifestFile = record { name = name; begin = begin; end = end; content = None } in
       sym (ap (given_by folder) (manifests_last names name (Manifest begin end size ticket) e) ∙ given_last (manifests_named names) m)
@@ -320,7 +283,7 @@ module _ (folder : Folder) (names : List Bytes) (name : Bytes) where
   given_is Expired e = wider_none (given_by folder (manifests_named names)) ∙ ap (given_by folder) (sym (manifests_same names name Expired e refl))
   given_is Other e = wider_none (given_by folder (manifests_named names)) ∙ ap (given_by folder) (sym (manifests_same names name Other e refl))
 
-  pub given_more : wider (given_by folder (manifests_named names)) (given_named folder name (name_of name)) ≡ given_by folder (manifests_named (names ++ name ∷ []))
+  pub given_more : wider (given_by folder (manifests_named names)) (given_named (reached folder.logs) folder.unreliable (name_of name)) ≡ given_by folder (manifests_named (names ++ name ∷ []))
   given_more = given_is (name_of name) refl
 
 -- ---- what the code's loop keeps
@@ -338,31 +301,11 @@ onward_step names so_far version to end name h e =
     go None = refl
     go (Some rest) = ap Some (append_assoc so_far (record { name = name; from = version; to = end } ∷ []) rest)
 
--- the best log goes on past the version
-pub best_later : {X : Type 0} (view : X → Bytes × ℕ) (logs : List LogFile) (version : ℕ) (best : Option X) → option_map view best ≡ seen (best_log logs version) → IfSome best (λ x. version < (view x).1)
-best_later view logs version None e = tt
-best_later view logs version (Some x) e = go (best_log logs version) refl e
-  where
-    go : (o : Option LogFile) → best_log logs version ≡ o → Some (view x) ≡ seen o → version < (view x).1
-    go None h e = cc
-    go (Some f) h e = let n = best_log_is logs version f h in let l = n.ends in let pairs : view x ≡ (f.name, f.end) = cc in let same : (view x).1 ≡ f.end = ap (λ p. p.1) pairs in omega arith
+-- ---- by the runs of versions in place of the logs
 
--- what is reached, from the best log's end
-seen_some : (logs : List LogFile) (version : ℕ) (name : Bytes) (end : ℕ) → seen (best_log logs version) ≡ Some (name, end) → (f : LogFile) × (best_log logs version ≡ Some f) × (f.end ≡ end)
-seen_some logs version name end e = go (best_log logs version) refl e
-  where
-    go : (o : Option LogFile) → best_log logs version ≡ o → seen o ≡ Some (name, end) → (f : LogFile) × (best_log logs version ≡ Some f) × (f.end ≡ end)
-    go None h e = cc
-    go (Some f) h e = let pairs : (f.name, f.end) ≡ (name, end) = cc in (f, h, ap (λ (p : Bytes × ℕ). p.1) pairs)
+module _ (runs : List Run) (logs : List LogFile) (tells : (from : ℕ) → reach_in runs from ≡ reached logs from) (unreliable : ℕ) where
+  pub given_told : (said : Name) → given_named (reach_in runs) unreliable said ≡ given_named (reached logs) unreliable said
+  given_told said = λ i. given_named (λ from. tells from i) unreliable said
 
-pub seen_next : (logs : List LogFile) (version : ℕ) (name : Bytes) (end : ℕ) → seen (best_log logs version) ≡ Some (name, end) → reached logs end ≡ reached logs version
-seen_next logs version name end e = let f = seen_some logs version name end e in ap (reached logs) (sym f.2) ∙ reached_next logs version f.0 f.1
-
-pub seen_within : (logs : List LogFile) (version : ℕ) (name : Bytes) (end : ℕ) → seen (best_log logs version) ≡ Some (name, end) → (version < end) × (end ≤ last_end logs)
-seen_within logs version name end e =
-    let f = seen_some logs version name end e in
-    let w = best_within logs version f.0 f.1 in
-    let l = w.0 in
-    let k = w.1 in
-    let same = f.2 in
-    (omega arith, omega arith)
+  pub better_told : (version : ℕ) (best : Option (Bytes × ℕ)) (name : Bytes) (said : Name) → better_manifest (reach_in runs) unreliable version best name said ≡ better_manifest (reached logs) unreliable version best name said
+  better_told version best name said = λ i. better_manifest (λ from. tells from i) unreliable version best name said

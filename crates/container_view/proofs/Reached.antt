@@ -64,6 +64,21 @@ module _ (logs : List LogFile) where
       (missing (last_end logs - f.end) f.end (omega arith))
       (missing (last_end logs - version) version (omega arith))
 
+  -- what is reached is told by the versions that are there
+  pub is_reached : (version r : ℕ) → version ≤ r → ((x : ℕ) → version ≤ x → x < r → HasVersion logs x) → (HasVersion logs r → ⊥) → r ≡ reached logs version
+  is_reached version r l all gone =
+      one_end version r (reached logs version) l (from_version (last_end logs - version) version) all
+      (λ x h g. all_there (last_end logs - version) version x h g) gone (missing (last_end logs - version) version (omega arith))
+
+  pub reached_there : (version x : ℕ) → version ≤ x → x < reached logs version → HasVersion logs x
+  reached_there version x h g = all_there (last_end logs - version) version x h g
+
+  pub reached_from : (version : ℕ) → version ≤ reached logs version
+  reached_from version = from_version (last_end logs - version) version
+
+  pub reached_ends : (version : ℕ) → HasVersion logs (reached logs version) → ⊥
+  reached_ends version = missing (last_end logs - version) version (omega arith)
+
   pub best_within : (version : ℕ) (f : LogFile) → best_log logs version ≡ Some f → (version < f.end) × (f.end ≤ last_end logs)
   best_within version f e = let n = best_log_is logs version f e in (n.ends, not_past_last logs f n.is_in)
 

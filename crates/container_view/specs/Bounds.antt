@@ -35,9 +35,11 @@ given folder m =
     then Some (record { least = m.end; greatest = max m.end (reached folder.logs m.begin - 1) })
     else None
 
--- the test of a manifest from begin to end, by the end that is reached
-abbrev pub is_given : Folder → ℕ → ℕ → ℕ → Bool
-is_given folder begin end version = nat_le end version && nat_le folder.unreliable begin && (nat_lt version (reached folder.logs begin) || (begin == version && end == version))
+-- the test of a manifest from begin to end, by the ends that are reached and the unreliable end
+abbrev pub is_given : (ℕ → ℕ) → ℕ → ℕ → ℕ → ℕ → Bool
+is_given reach unreliable begin end version =
+    nat_le end version && nat_le unreliable begin
+    && (nat_lt version (reach begin) || (begin == version && end == version))
 
 -- it lies between the bounds, where there are any
 abbrev pub IsBetween : Option Bounds → ℕ → Type 0

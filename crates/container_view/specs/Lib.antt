@@ -15,4 +15,5 @@ pub mod Stores
 pub mod Lookups
 pub mod Honest
 pub mod Names
+pub mod Listed
 pub mod Sets

@@ -1,5 +1,5 @@
 -- What the names of a container's files say without their bytes.
-use Rattle.std.specs.Prelude.{◌≡◌, ℕ, ◌-◌, Bool, false, ◌&&◌, ◌||◌, List, [], ◌∷◌, map, Option, Some, None, option_map, if◌then◌else◌, nat_le, nat_lt}
+use Rattle.std.specs.Prelude.{◌≡◌, ℕ, ◌-◌, max, ◌==◌, Bool, false, ◌&&◌, ◌||◌, List, [], ◌∷◌, map, Option, Some, None, option_map, if◌then◌else◌, nat_le, nat_lt}
 use Rattle.std.specs.List.{flat_map}
 use Rattle.fb_bytes.specs.Bytes.{Bytes, is_same}
 use Rattle.fb_outside.specs.declared.File.{File}
@@ -10,7 +10,7 @@ pub use Rattle.container_view.specs.declared.chaining.Link.{Link}
 use Rattle.container_view.specs.Folder.{LogFile, ManifestFile, Folder}
 use Rattle.container_view.specs.Chain.{LogLink, comes_first, links, chain}
 use Rattle.container_view.specs.Advertised.{chosen, is_advertised}
-use Rattle.container_view.specs.Bounds.{Bounds, is_given, given, advertised_bounds}
+use Rattle.container_view.specs.Bounds.{Bounds, is_given, advertised_bounds}
 use Rattle.container_view.specs.Files.{Grammars, inside, folder_of}
 
 -- the names of a container's files in a store, as they stand in the container
@@ -86,33 +86,27 @@ abbrev pub first_of : Bytes → ℕ → Option (Bytes × ℕ) → Option (Bytes 
 first_of name end None = Some (name, end)
 first_of name end (Some other) = if comes_first end name other.1 other.0 then Some (name, end) else Some other
 
--- the best log that has the version, of the best so far and one name more
-abbrev pub better_log : ℕ → Option (Bytes × ℕ) → Bytes → Name → Option (Bytes × ℕ)
-better_log version best name (Log begin end ticket block) = if nat_le begin version && nat_lt version end then first_of name end best else best
-better_log version best name (Range snapshot v ticket block) = best
-better_log version best name (Manifest begin end size ticket) = best
-better_log version best name Unreliable = best
-better_log version best name Expired = best
-better_log version best name Other = best
-
 -- the manifest's name with its end
 abbrev pub seen_manifest : Option ManifestFile → Option (Bytes × ℕ)
 seen_manifest found = option_map (λ m. (m.name, m.end)) found
 
 -- the best manifest that gives the version, of the best so far and one name more
-abbrev pub better_manifest : Folder → ℕ → Option (Bytes × ℕ) → Bytes → Name → Option (Bytes × ℕ)
-better_manifest folder version best name (Manifest begin end size ticket) = if is_given folder begin end version then first_of name end best else best
-better_manifest folder version best name (Range snapshot v ticket block) = best
-better_manifest folder version best name (Log begin end ticket block) = best
-better_manifest folder version best name Unreliable = best
-better_manifest folder version best name Expired = best
-better_manifest folder version best name Other = best
+abbrev pub better_manifest : (ℕ → ℕ) → ℕ → ℕ → Option (Bytes × ℕ) → Bytes → Name → Option (Bytes × ℕ)
+better_manifest reach unreliable version best name (Manifest begin end size ticket) =
+    if is_given reach unreliable begin end version then first_of name end best else best
+better_manifest reach unreliable version best name (Range snapshot v ticket block) = best
+better_manifest reach unreliable version best name (Log begin end ticket block) = best
+better_manifest reach unreliable version best name Unreliable = best
+better_manifest reach unreliable version best name Expired = best
+better_manifest reach unreliable version best name Other = best
 
 -- the bounds that one name more gives
-abbrev pub given_named : Folder → Bytes → Name → Option Bounds
-given_named folder name (Manifest begin end size ticket) = given folder (record { name = name; begin = begin; end = end; content = None })
-given_named folder name (Range snapshot version ticket block) = None
-given_named folder name (Log begin end ticket block) = None
-given_named folder name Unreliable = None
-given_named folder name Expired = None
-given_named folder name Other = None
+abbrev pub given_named : (ℕ → ℕ) → ℕ → Name → Option Bounds
+given_named reach unreliable (Manifest begin end size ticket) =
+    if nat_le unreliable begin && (nat_lt end (reach begin) || begin == end)
+    then Some (record { least = end; greatest = max end (reach begin - 1) }) else None
+given_named reach unreliable (Range snapshot version ticket block) = None
+given_named reach unreliable (Log begin end ticket block) = None
+given_named reach unreliable Unreliable = None
+given_named reach unreliable Expired = None
+given_named reach unreliable Other = None

@@ -1,12 +1,10 @@
 //! Chains of log files, from the names of a container's files alone.
 
-ghost use Rattle.std.specs.Prelude.{◌≡◌, ℕ, ◌+◌, ◌<◌, List, [], length, IfOk, IfSome, option_map};
-ghost use Rattle.container_view.specs.Chain as spec;
-ghost use Rattle.container_view.specs.Names.{chain_named, logs_named, seen, better_log};
-ghost use Rattle.file_names.specs.Reading.{name_of};
+ghost use Rattle.std.specs.Prelude.{◌≡◌, ◌+◌, List, [], length, IfOk};
+ghost use Rattle.container_view.specs.Names.{chain_named};
 
-use fb_bytes::{Names, Text, is_below};
-use file_names::{Name, parse};
+use crate::logs::{best_at, best_logs};
+use fb_bytes::{Names, Text};
 use std::alloc::{AllocError, Global};
 use std::marker::Model;
 
@@ -111,10 +109,11 @@ pub fn chain_past(
 ) -> Result<Option<Links>, AllocError>
     ensures { IfOk result (λ links. links ≡ chain_named names.now from (last + 1)) }
 {
+    let logs = best_logs(alloc, names.as_slice())?;
     let mut links = Vec::new(alloc);
     let mut version = from;
     'links: while version <= last {
-        let Some((name, end)) = best_log(names.as_slice(), version) else {
+        let Some((name, end)) = best_at(&logs, version) else {
             return Ok(None);
         };
         let name = name.copy()?;
@@ -126,47 +125,4 @@ pub fn chain_past(
         version = end;
     }
     Ok(Some(Links { links }))
-}
-
-/// Of the log files that have the version, the name and end of the one that comes first.
-pub(crate) fn best_log(names: &[Text], version: u64) -> Option<(&Text, u64)>
-    ensures same { option_map (λ x. (x.0.now, x.1)) result ≡ seen (spec.best_log (logs_named names.now) version) }
-    ensures later { IfSome result (λ x. version < x.1) }
-{
-    let mut best = None;
-    'names: for name in names {
-        best = better_log(best, name, version);
-    }
-    best
-}
-
-/// The better of the best log so far and the file of one name more.
-fn better_log<'a>(
-    best: Option<(&'a Text, u64)>,
-    name: &'a Text,
-    version: u64,
-) -> Option<(&'a Text, u64)>
-    ensures { option_map (λ x. (x.0.now, x.1)) result ≡ better_log version (option_map (λ x. (x.0.now, x.1)) best.entry) name.now (name_of name.now) }
-{
-    let Name::Log { begin, end, .. } = parse(name.as_bytes()) else {
-        return best;
-    };
-    if version < begin || end <= version {
-        return best;
-    }
-    let Some((other, other_end)) = best else {
-        return Some((name, end));
-    };
-    if comes_first(end, name.as_bytes(), other_end, other.as_bytes()) {
-        Some((name, end))
-    } else {
-        best
-    }
-}
-
-/// Whether a file with the greater end or, of two with one end, the lesser name comes first.
-pub(crate) fn comes_first(end: u64, name: &[u8], other_end: u64, other: &[u8]) -> bool
-    ensures { result ≡ spec.comes_first end name.now other_end other.now }
-{
-    end > other_end || (end == other_end && is_below(name, other))
 }

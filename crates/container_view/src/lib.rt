@@ -3,6 +3,7 @@
 
 mod chaining;
 mod laws;
+mod logs;
 mod property;
 mod restoring;
 mod versions;

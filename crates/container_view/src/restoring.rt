@@ -99,8 +99,8 @@ fn set_by<V: Vault>(
     ensures count { Counts (V.faults vault.old) (V.faults vault.new) (IsErrOf result ViewFault.VaultFault) }
     ensures called { V.calls vault.new ≤ V.calls vault.old + 1 }
 {
-    let Some(name) = manifest_for(names, unreliable, version) else {
-        return Err(not_restorable(restorable(names, unreliable)));
+    let Some(name) = manifest_for(alloc, names, unreliable, version)? else {
+        return Err(not_restorable(restorable(alloc, names, unreliable)?));
     };
     let manifest = get_manifest(alloc, vault, container, name)?;
     set_with(alloc, names, manifest, version)

@@ -48,8 +48,8 @@ fn a_version_has_the_manifest_with_the_greatest_end(rt: HostRuntime) -> Result<(
         least: 20,
         greatest: 30,
     };
-    assert_eq!(rt; restorable(&names, 0), Some(bounds));
-    assert_eq!(rt; restorable(&names, 26), None);
+    assert_eq!(rt; restorable(rt.alloc(), &names, 0)?, Some(bounds));
+    assert_eq!(rt; restorable(rt.alloc(), &names, 26)?, None);
     let rows: [(u64, &str); 4] = [
         (20, "snapshots/snapshot,20,20,23,3"),
         (27, "snapshots/snapshot,20,20,23,3"),
@@ -57,12 +57,12 @@ fn a_version_has_the_manifest_with_the_greatest_end(rt: HostRuntime) -> Result<(
         (30, "snapshots/snapshot,25,28,46,6"),
     ];
     for (version, wanted) in rows {
-        let found = manifest_for(&names, 0, version);
+        let found = manifest_for(rt.alloc(), &names, 0, version)?;
         assert!(rt; matches!(found, Some(name) if name.as_str() == wanted));
     }
-    assert!(rt; manifest_for(&names, 0, 19).is_none());
-    assert!(rt; manifest_for(&names, 0, 31).is_none());
-    assert!(rt; manifest_for(&names, 21, 20).is_none());
+    assert!(rt; manifest_for(rt.alloc(), &names, 0, 19)?.is_none());
+    assert!(rt; manifest_for(rt.alloc(), &names, 0, 31)?.is_none());
+    assert!(rt; manifest_for(rt.alloc(), &names, 21, 20)?.is_none());
     Ok(())
 }
 

@@ -1,14 +1,16 @@
 //! The versions that a container can be restored to, from the names of its files alone.
 
-ghost use Rattle.std.specs.Prelude.{◌≡◌, ℕ, List, option_map};
-ghost use Rattle.container_view.specs.Names.{logs_named, folder_named, manifest_name, seen_manifest, better_manifest, given_named};
+ghost use Rattle.std.specs.Prelude.{◌≡◌, ℕ, List, option_map, IfOk};
+ghost use Rattle.container_view.specs.Listed.{IsRisingBy, reach_in};
+ghost use Rattle.container_view.specs.Names.{folder_named, manifest_name, seen_manifest, better_manifest, given_named};
 ghost use Rattle.container_view.specs.Advertised.{chosen};
 ghost use Rattle.container_view.specs.Bounds as spec;
 ghost use Rattle.file_names.specs.Reading.{name_of};
 
-use crate::chaining::{best_log, comes_first};
+use crate::logs::{Run, comes_first, reached, runs};
 use fb_bytes::{Names, Text};
 use file_names::{Name, parse};
+use std::alloc::{AllocError, Global};
 
 /// The least and the greatest version that a container can be restored to.
 #[derive(Clone, Copy, Debug, PartialEq, Eq)]
@@ -18,25 +20,31 @@ pub struct Bounds {
 }
 
 /// The bounds of the versions that a container with these names advertises, with the number of its
-/// unreliable end. There are none where it advertises no version. It takes no memory.
-pub fn restorable(names: &Names, unreliable: u64) -> Option<Bounds>
-    ensures { result ≡ spec.advertised_bounds (folder_named names.now unreliable) }
+/// unreliable end. There are none where it advertises no version.
+pub fn restorable(
+    alloc: Global,
+    names: &Names,
+    unreliable: u64,
+) -> Result<Option<Bounds>, AllocError>
+    ensures { IfOk result (λ bounds. bounds ≡ spec.advertised_bounds (folder_named names.now unreliable)) }
 {
+    let runs = runs(alloc, names.as_slice())?;
     let mut bounds = None;
     'names: for name in names.as_slice() {
-        bounds = wider(bounds, given(names.as_slice(), unreliable, name));
+        bounds = wider(bounds, given(&runs, unreliable, name));
     }
-    bounds
+    Ok(bounds)
 }
 
 /// The bounds of the versions that a manifest gives, where the name is that of one.
-fn given(names: &[Text], unreliable: u64, name: &Text) -> Option<Bounds>
-    ensures { result ≡ given_named (folder_named names.now unreliable) name.now (name_of name.now) }
+fn given(runs: &[Run], unreliable: u64, name: &Text) -> Option<Bounds>
+    requires { IsRisingBy (λ run. run.begin) 0 runs.now }
+    ensures { result ≡ given_named (reach_in runs.now) unreliable (name_of name.now) }
 {
     let Name::Manifest { begin, end, .. } = parse(name.as_bytes()) else {
         return None;
     };
-    let reached = reached(names, begin);
+    let reached = reached(runs, begin);
     if unreliable <= begin && (end < reached || begin == end) {
         Some(Bounds {
             least: end,
@@ -63,45 +71,43 @@ fn wider(a: Option<Bounds>, b: Option<Bounds>) -> Option<Bounds>
     })
 }
 
-/// The end that is reached by following chains of log files from the version.
-fn reached(names: &[Text], from: u64) -> u64
-    ensures { result ≡ spec.reached (logs_named names.now) from }
-{
-    let mut version = from;
-    'links: while let Some((_, end)) = best_log(names, version) {
-        version = end;
-    }
-    version
-}
-
 /// The name of the manifest that is restored for a version, of a container with these names: of
 /// those that give the version the one with the greatest end, then the least name. There is none
-/// where the version isn't advertised. It takes no memory.
-pub fn manifest_for(names: &Names, unreliable: u64, version: u64) -> Option<&Text>
-    ensures { option_map (λ name. name.now) result ≡ manifest_name (chosen (folder_named names.now unreliable) version) }
+/// where the version isn't advertised.
+pub fn manifest_for<'a>(
+    alloc: Global,
+    names: &'a Names,
+    unreliable: u64,
+    version: u64,
+) -> Result<Option<&'a Text>, AllocError>
+    ensures { IfOk result (λ name. option_map (λ name. name.now) name ≡ manifest_name (chosen (folder_named names.now unreliable) version)) }
 {
+    let runs = runs(alloc, names.as_slice())?;
     let mut best = None;
     'names: for name in names.as_slice() {
-        best = better_manifest(best, names.as_slice(), unreliable, name, version);
+        best = better_manifest(best, &runs, unreliable, name, version);
     }
-    let (name, _) = best?;
-    Some(name)
+    match best {
+        Some((name, _)) => Ok(Some(name)),
+        None => Ok(None),
+    }
 }
 
 /// The better of the best manifest so far and the file of one name more.
 fn better_manifest<'a>(
     best: Option<(&'a Text, u64)>,
-    names: &[Text],
+    runs: &[Run],
     unreliable: u64,
     name: &'a Text,
     version: u64,
 ) -> Option<(&'a Text, u64)>
-    ensures { option_map (λ x. (x.0.now, x.1)) result ≡ better_manifest (folder_named names.now unreliable) version (option_map (λ x. (x.0.now, x.1)) best.entry) name.now (name_of name.now) }
+    requires { IsRisingBy (λ run. run.begin) 0 runs.now }
+    ensures { option_map (λ x. (x.0.now, x.1)) result ≡ better_manifest (reach_in runs.now) unreliable version (option_map (λ x. (x.0.now, x.1)) best.entry) name.now (name_of name.now) }
 {
     let Name::Manifest { begin, end, .. } = parse(name.as_bytes()) else {
         return best;
     };
-    if !gives(names, unreliable, begin, end, version) {
+    if !gives(runs, unreliable, begin, end, version) {
         return best;
     }
     let Some((other, other_end)) = best else {
@@ -115,11 +121,12 @@ fn better_manifest<'a>(
 }
 
 /// Whether a manifest from `begin` to `end` gives the version.
-fn gives(names: &[Text], unreliable: u64, begin: u64, end: u64, version: u64) -> bool
-    ensures { result ≡ spec.is_given (folder_named names.now unreliable) begin end version }
+fn gives(runs: &[Run], unreliable: u64, begin: u64, end: u64, version: u64) -> bool
+    requires { IsRisingBy (λ run. run.begin) 0 runs.now }
+    ensures { result ≡ spec.is_given (reach_in runs.now) unreliable begin end version }
 {
     if version < end || begin < unreliable {
         return false;
     }
-    version < reached(names, begin) || (begin == version && end == version)
+    version < reached(runs, begin) || (begin == version && end == version)
 }
