@@ -9,7 +9,7 @@ use Rattle.log_files.specs.Writing.{log_text}
 use Rattle.manifests.specs.Grammar.{manifest_text}
 use Rattle.container_view.specs.Files.{whole_name}
 use Rattle.container_view.specs.Names.{names_inside}
-use Rattle.snapshot_plan.specs.Noted.{pieces_of, gap, manifest_of}
+use Rattle.snapshot_plan.specs.Noted.{pieces_of, gap, manifest_of, most_bytes}
 use Rattle.snapshot_plan.specs.Pieces.{outside, overlap}
 use Rattle.database.specs.Commits.{most_version}
 use Rattle.database.specs.Dumps.{pairs_at}
@@ -145,8 +145,19 @@ seal_name w job = text_of (manifest_name job.hand w.tickets)
 abbrev pub with_seal : Job → Job
 with_seal job = record job { hand = sealed job.hand }
 
+-- the bytes of all files of a job's snapshot
+abbrev pub snapshot_bytes : Job → ℕ
+snapshot_bytes job = (manifest_of job.hand.map.noted).bytes
+
+abbrev pub seal_fitting : state.State → Found → Luck → Moved
+seal_fitting w found luck =
+    putting w (whole_name found.job.container (seal_name w found.job)) (manifest_text (manifest_of found.job.hand.map.noted))
+    (with_job found.place (with_seal found.job) w) luck
+
+-- more bytes than a name has room for are want of memory
 abbrev pub seal_put : state.State → Found → Luck → Moved
-seal_put w found luck = putting w (whole_name found.job.container (seal_name w found.job)) (manifest_text (manifest_of found.job.hand.map.noted)) (with_job found.place (with_seal found.job) w) luck
+seal_put w found luck =
+    if nat_lt most_bytes (snapshot_bytes found.job) then moved (Err NoMemory) w else seal_fitting w found luck
 
 abbrev pub seal_tested : state.State → Found → Luck → Option Bytes → Moved
 seal_tested w found luck (Some key) = refuses (Untiled key) w
