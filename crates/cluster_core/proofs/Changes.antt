@@ -42,8 +42,8 @@ pub record IsFree (job : List KeyRange) (noted : List Noted) (piece : KeyRange) 
 
 pub is_free : (k : Known) (block now tickets : ℕ) (history : List Entry) (job : Job) (piece : KeyRange) → IsJobSound block now tickets history job → is_backwards piece ≡ false → outside job.hand.map.ranges piece ≡ None → overlap (pieces_of job.hand.map.noted) piece ≡ None → IsFree job.hand.map.ranges job.hand.map.noted piece
 is_free k block now tickets history job piece h b o v =
-    let out : IsFirstOrNone (holds piece) (λ key. not (in_ranges job.hand.map.ranges key)) None = subst (IsFirstOrNone (holds piece) (λ key. not (in_ranges job.hand.map.ranges key))) o (k.piece.outside job.hand.map.ranges piece (k.piece.ranges job.hand.map.ranges h.ranges.separate) b) in
-    let over : IsFirstOrNone (holds piece) (in_ranges (pieces_of job.hand.map.noted)) None = subst (IsFirstOrNone (holds piece) (in_ranges (pieces_of job.hand.map.noted))) v (k.piece.overlap (pieces_of job.hand.map.noted) piece h.pieces b) in
+    let out : IsFirstOrNone (holds piece) (λ key. not (in_ranges job.hand.map.ranges key)) None = subst (IsFirstOrNone (holds piece) (λ key. not (in_ranges job.hand.map.ranges key))) o (k.piece.outside job.hand.map.ranges piece (k.piece.ranges job.hand.map.ranges h.ranges.separate)) in
+    let over : IsFirstOrNone (holds piece) (in_ranges (pieces_of job.hand.map.noted)) None = subst (IsFirstOrNone (holds piece) (in_ranges (pieces_of job.hand.map.noted))) v (k.piece.overlap (pieces_of job.hand.map.noted) piece h.pieces) in
     record { forward = b; inside = λ key e. not_false (in_ranges job.hand.map.ranges key) (out key e); free = over }
 
 with_dump_inside : (k : Known) (job : List KeyRange) (noted : List Noted) (one : Noted) → IsFree job noted one.piece → ((key : Bytes) → in_ranges (pieces_of noted) key ≡ true → in_ranges job key ≡ true) → (key : Bytes) → in_ranges (pieces_of (with_noted one noted)) key ≡ true → in_ranges job key ≡ true

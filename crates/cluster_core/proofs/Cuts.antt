@@ -1,5 +1,5 @@
 -- Log files and manifests can be written, and what a cut and a seal come to.
-use Rattle.std.specs.Prelude.{◌≡◌, ℕ, zero, suc, ◌+◌, ◌^◌, ◌<◌, ◌≤◌, Bool, true, false, not, ◌&&◌, cond, List, [], ◌∷◌, length, Option, Some, None, ◌⊎◌, slice_get, slice_index_or, option_map, if◌then◌else◌, refl}
+use Rattle.std.specs.Prelude.{Err, nat_lt, ◌≡◌, ℕ, zero, suc, ◌+◌, ◌^◌, ◌<◌, ◌≤◌, Bool, true, false, not, ◌&&◌, cond, List, [], ◌∷◌, length, Option, Some, None, ◌⊎◌, slice_get, slice_index_or, option_map, if◌then◌else◌, refl}
 use Rattle.std.proofs.Common.{ap, sym, ◌∙◌, arith, subst, inl, inr}
 use Rattle.std.proofs.lemmas.Bool.{and_from, lt-ltb, le-ltb, eq-eqb, ne_eqb}
 use Rattle.std.proofs.lemmas.Option.{slice_get_within, get_or_from_slice_get}
@@ -15,7 +15,7 @@ use Rattle.manifests.specs.Grammar.{IsWhole, name_for, manifest_text}
 use Rattle.container_view.specs.Files.{whole_name}
 use Rattle.snapshot_plan.specs.declared.MapFault.{MapFault}
 use Rattle.snapshot_plan.specs.declared.MapFault.TheVariants as faults
-use Rattle.snapshot_plan.specs.Noted.{gap, manifest_of}
+use Rattle.snapshot_plan.specs.Noted.{gap, manifest_of, most_bytes}
 use Rattle.workload_text.specs.declared.Side.{Side}
 use Rattle.workload_text.specs.declared.Side.TheVariants.{Src, Dst}
 use Rattle.workload_text.specs.declared.Settings.{Settings}
@@ -29,8 +29,9 @@ use Rattle.cluster_core.specs.declared.plan.Plan.TheVariants.{Put}
 use Rattle.cluster_core.specs.declared.refusal.Refusal.TheVariants.{NothingNew, Untiled}
 use Rattle.cluster_core.specs.Jobs.{Job, is_on, logs_from, logs_of}
 use Rattle.cluster_core.specs.State.{State, history_on}
-use Rattle.cluster_core.specs.Moves.{Luck}
-use Rattle.cluster_core.specs.Commands.{refuses, cut_bytes, cut_name, with_cut, cut_put, cut_log, seal_name, with_seal, seal_tested, seal_job}
+use Rattle.cluster_core.specs.declared.event.StepFault.TheVariants.{NoMemory}
+use Rattle.cluster_core.specs.Moves.{moved, Luck}
+use Rattle.cluster_core.specs.Commands.{refuses, cut_bytes, cut_name, with_cut, cut_put, cut_log, seal_name, with_seal, seal_fitting, snapshot_bytes, seal_tested, seal_job}
 use Rattle.cluster_core.specs.Plans.{planned, IsSafe}
 use Rattle.cluster_core.specs.Sound.{IsNoted, Sound}
 use Rattle.cluster_core.proofs.Entries.{All-weaker}
@@ -151,7 +152,6 @@ pub record IsSealable (m : Manifest) : Type 0 where
   pub whole : IsWhole m
   pub order : m.begin ≤ m.end
   pub end : m.end ≤ most_version
-  pub bytes : m.bytes < 2 ^ 63
 
 pub sealable : (p : Workload) (w : State) (place : ℕ) (job : Job) (m : Manifest) → Sound p w → slice_get w.jobs place ≡ Some job → gap job.hand.map ≡ None → m ≡ manifest_of job.hand.map.noted → IsSealable m
 sealable p w place job m h at g e =
@@ -162,7 +162,6 @@ sealable p w place job m h at g e =
       whole = sealed_whole known p.settings.block w.time w.tickets (history_on job.side w) job j some;
       order = known.manifests.order job.hand.map.noted;
       end = known.manifests.end job.hand.map.noted most_version (All-weaker (IsNoted p.settings.block w.time w.tickets) (λ n. n.file.version ≤ most_version) job.hand.map.noted (λ n q. let v = q.past in let b = h.bound in omega arith) j.noted);
-      bytes = let b = known.manifests.bytes job.hand.map.noted in omega arith;
     })
 
 untiled : (o : Option Bytes) (fault : MapFault) (key : Bytes) → fault ≡ faults.Untiled key → (fault ≡ faults.NoMemory) ⊎ (option_map (λ (k : Bytes). faults.Untiled k) o ≡ Some fault) → o ≡ Some key
@@ -183,9 +182,10 @@ seal_filed w place job m hand copied old name bytes e h c o n b =
     ∙ ap {A = Bytes} {B = Filing} (λ (x : Bytes). record { place = place; job = with_seal job; whole = whole_name job.container x; bytes = bytes }) (n ∙ ap (λ (x : Manifest). text_of (name_for x w.tickets)) e)
     ∙ ap {A = Bytes} {B = Filing} (λ (x : Bytes). record { place = place; job = with_seal job; whole = whole_name job.container (seal_name w job); bytes = x }) (b ∙ ap manifest_text e)
 
-pub seal_planned : (s : Settings) (w : State) (place : ℕ) (found job : Job) (filing : Filing) → found ≡ slice_index_or w.jobs place found → gap found.hand.map ≡ None → filing ≡ seal_filing w place found → slice_get w.jobs place ≡ Some job → (luck : Luck) → seal_job w luck (record { place = place; job = job }) ≡ planned s w luck (Put filing)
-seal_planned s w place found job filing e g f at luck =
+pub seal_planned : (s : Settings) (w : State) (place : ℕ) (found job : Job) (filing : Filing) → found ≡ slice_index_or w.jobs place found → gap found.hand.map ≡ None → snapshot_bytes found ≤ most_bytes → filing ≡ seal_filing w place found → slice_get w.jobs place ≡ Some job → (luck : Luck) → seal_job w luck (record { place = place; job = job }) ≡ planned s w luck (Put filing)
+seal_planned s w place found job filing e g b f at luck =
     ap (seal_tested w (record { place = place; job = job }) luck) (ap (λ (x : Job). gap x.hand.map) (sym (same_job w.jobs place job found at e)) ∙ g)
+    ∙ ap (λ (t : Bool). cond t (moved (Err NoMemory) w) (seal_fitting w (record { place = place; job = job }) luck)) (ap (λ (x : Job). nat_lt most_bytes (snapshot_bytes x)) (sym (same_job w.jobs place job found at e)) ∙ le-ltb most_bytes (snapshot_bytes found) b)
     ∙ ap (λ (x : Job). planned s w luck (Put (seal_filing w place x))) (sym (same_job w.jobs place job found at e))
     ∙ ap (λ (x : Filing). planned s w luck (Put x)) (sym f)
 

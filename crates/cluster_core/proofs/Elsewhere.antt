@@ -8,6 +8,8 @@ use Rattle.fb_bytes.proofs.Order.{same_eq}
 use Rattle.fb_outside.specs.declared.File.{File}
 use Rattle.fb_outside.proofs.Filing.{file_of_put_other}
 use Rattle.mutations.specs.declared.Entry.{Entry}
+use Rattle.manifests.specs.Grammar.{manifest_text}
+use Rattle.snapshot_plan.specs.Noted.{manifest_of, most_bytes}
 use Rattle.container_view.specs.Files.{whole_name, name_in}
 use Rattle.container_view.proofs.Stores.{store_law}
 use Rattle.workload_text.specs.declared.Settings.{Settings}
@@ -26,7 +28,7 @@ use Rattle.cluster_core.specs.declared.refusal.Refusal.TheVariants.{TagBusy, Wro
 use Rattle.cluster_core.specs.Jobs.{Job, Found, newest, started_in, state_of_job}
 use Rattle.cluster_core.specs.State.{State, with_history, client_at, with_job, with_put}
 use Rattle.cluster_core.specs.Moves.{Luck, Fine, FailsOld, FailsNew, Starved, is_starved, Moved, moved}
-use Rattle.cluster_core.specs.Commands.{done, refuses, new_job, starts, names_listed, open_over, open_listed, open_untaken, is_busy, open_job, puts, putting, dump_name, dump_bytes, with_dump, dump_tested, dump_piece, cut_name, cut_bytes, with_cut, cut_put, cut_log, seal_name, with_seal, seal_tested, seal_job, abort_job, on_running, on_found, command_gives, operator_with}
+use Rattle.cluster_core.specs.Commands.{done, refuses, new_job, starts, names_listed, open_over, open_listed, open_untaken, is_busy, open_job, puts, putting, dump_name, dump_bytes, with_dump, dump_tested, dump_piece, cut_name, cut_bytes, with_cut, cut_put, cut_log, seal_name, with_seal, seal_fitting, snapshot_bytes, seal_tested, seal_job, abort_job, on_running, on_found, command_gives, operator_with}
 use Rattle.cluster_core.specs.Step.{begin_with, commit_with, try_in, event_gives, step, Step, Turn, Run}
 use Rattle.cluster_core.specs.Elsewhere.{told_of, IsOutside, KeepsElsewhere, ElsewhereLaw}
 use Rattle.cluster_core.proofs.Steps.{newest_at}
@@ -116,7 +118,11 @@ cut_kept s w found luck at = go (nat_lt w.time found.job.hand.next)
 
 seal_kept : (w : State) (found : Found) (luck : Luck) (o : Option Bytes) → slice_get w.jobs found.place ≡ Some found.job → KeepsElsewhere w (seal_tested w found luck o).state
 seal_kept w found luck (Some key) at = unchanged w _ refl refl
-seal_kept w found luck None at = putting_kept w found.place found.job (with_seal found.job) (seal_name w found.job) _ luck at refl
+seal_kept w found luck None at = go (nat_lt most_bytes (snapshot_bytes found.job))
+  where
+    go : (b : Bool) → KeepsElsewhere w (cond b (moved (Err NoMemory) w) (seal_fitting w found luck)).state
+    go true = unchanged w w refl refl
+    go false = putting_kept w found.place found.job (with_seal found.job) (seal_name w found.job) (manifest_text (manifest_of found.job.hand.map.noted)) luck at refl
 
 abort_kept : (w : State) (found : Found) → slice_get w.jobs found.place ≡ Some found.job → KeepsElsewhere w (abort_job w found).state
 abort_kept w found at = record {

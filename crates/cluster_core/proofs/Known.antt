@@ -48,7 +48,6 @@ pub record ManifestsKnown : Type 0 where
   pub whole : (noted : List Noted) → 0 < length noted → AllByRecursion (λ n. version_of n.file.name ≡ Some n.file.version) noted → AreDistinct (map (λ n. n.file.name) noted) → IsWhole (manifest_of noted)
   pub order : (noted : List Noted) → (manifest_of noted).begin ≤ (manifest_of noted).end
   pub end : (noted : List Noted) (most : ℕ) → AllByRecursion (λ n. n.file.version ≤ most) noted → (manifest_of noted).end ≤ most
-  pub bytes : (noted : List Noted) → (manifest_of noted).bytes ≤ 9223372036854775807
   -- it lists the names of noted files alone
   pub listed : (tickets : ℕ) (noted : List Noted) → AllByRecursion (λ n. IsDrawn tickets n.file.name) noted → AllByRecursion (IsDrawn tickets) (manifest_of noted).files
   pub written : (m : Manifest) (ticket : ℕ) → IsWhole m → m.bytes ≤ 9223372036854775807 → ManifestText (name_for m ticket) (manifest_text m) m

@@ -20,3 +20,4 @@ mod Worlds
 mod Carried
 mod Planned
 mod Cuts
+pub mod LeastKeys

@@ -17,7 +17,7 @@ use Rattle.container_view.specs.Contents.{file_grammars}
 use Rattle.container_view.specs.Files.{whole_name}
 use Rattle.container_view.specs.Honest.{IsHonestFile, listed_by}
 use Rattle.snapshot_plan.specs.declared.Noted.{Noted}
-use Rattle.snapshot_plan.specs.Noted.{pieces_of, gap, manifest_of}
+use Rattle.snapshot_plan.specs.Noted.{pieces_of, gap, manifest_of, most_bytes}
 use Rattle.snapshot_plan.specs.Pieces.{outside, overlap}
 use Rattle.workload_text.specs.declared.Workload.{Workload}
 use Rattle.workload_text.specs.Commands.{IsPiece}
@@ -29,7 +29,7 @@ use Rattle.cluster_core.specs.declared.refusal.Refusal.TheVariants.{NothingNew}
 use Rattle.cluster_core.specs.Jobs.{Job, Found}
 use Rattle.cluster_core.specs.State.{State, history_on, with_job, with_put}
 use Rattle.cluster_core.specs.Moves.{Luck, Fine, FailsOld, FailsNew, Starved, moved}
-use Rattle.cluster_core.specs.Commands.{refuses, puts, putting, dump_name, dump_bytes, with_dump, dump_put, dump_tested, dump_piece, cut_name, cut_bytes, with_cut, cut_put, cut_log, seal_name, with_seal, seal_tested, seal_job, with_abort, abort_job}
+use Rattle.cluster_core.specs.Commands.{refuses, puts, putting, dump_name, dump_bytes, with_dump, dump_put, dump_tested, dump_piece, cut_name, cut_bytes, with_cut, cut_put, cut_log, seal_name, with_seal, seal_fitting, snapshot_bytes, seal_tested, seal_job, with_abort, abort_job}
 use Rattle.cluster_core.specs.Sound.{IsNoted, IsDrawn, IsThere, IsJobSound, IsStored, Sound, source_of}
 use Rattle.cluster_core.proofs.All.{all_placed}
 use Rattle.cluster_core.proofs.Entries.{All-weaker}
@@ -158,20 +158,20 @@ cut_keeps k p w luck found h at running = go (nat_lt w.time found.job.hand.next)
 
 -- ---- seal
 
-seal_order : (k : Known) (p : Workload) (w : State) (place : ℕ) (job : Job) → Sound p w → slice_get w.jobs place ≡ Some job → gap job.hand.map ≡ None → w.tickets ≤ most_version → IsOrder p w place job (with_seal job).hand (seal_name w job) (manifest_text (manifest_of job.hand.map.noted))
-seal_order k p w place job h at g t =
+seal_order : (k : Known) (p : Workload) (w : State) (place : ℕ) (job : Job) → Sound p w → slice_get w.jobs place ≡ Some job → gap job.hand.map ≡ None → snapshot_bytes job ≤ 9223372036854775807 → w.tickets ≤ most_version → IsOrder p w place job (with_seal job).hand (seal_name w job) (manifest_text (manifest_of job.hand.map.noted))
+seal_order k p w place job h at g fits t =
     let j = h.jobs place job at in
     let m = manifest_of job.hand.map.noted in
     let tiled = tiles k job.hand.map.ranges job.hand.map.noted j.ranges.separate j.pieces j.inside g in
     let some = some_noted job.hand.map.ranges job.hand.map.noted j.some j.ranges.separate tiled in
     let end : (manifest_of job.hand.map.noted).end ≤ most_version = k.manifests.end job.hand.map.noted most_version (All-weaker (IsNoted p.settings.block w.time w.tickets) (λ n. n.file.version ≤ most_version) job.hand.map.noted (λ n q. let v = q.past in let b = h.bound in omega arith) j.noted) in
-    let name : name_of (seal_name w job) ≡ name_for (manifest_of job.hand.map.noted) w.tickets = named k (manifest_name job.hand w.tickets) (manifest_spelled (manifest_of job.hand.map.noted).begin (manifest_of job.hand.map.noted).end (manifest_of job.hand.map.noted).bytes w.tickets (k.manifests.order job.hand.map.noted) end (k.manifests.bytes job.hand.map.noted) t) in
+    let name : name_of (seal_name w job) ≡ name_for (manifest_of job.hand.map.noted) w.tickets = named k (manifest_name job.hand w.tickets) (manifest_spelled (manifest_of job.hand.map.noted).begin (manifest_of job.hand.map.noted).end (manifest_of job.hand.map.noted).bytes w.tickets (k.manifests.order job.hand.map.noted) end fits t) in
     record {
       fresh = fresh_manifest (seal_name w job) w.tickets (manifest_of job.hand.map.noted).begin (manifest_of job.hand.map.noted).end (manifest_of job.hand.map.noted).bytes w.tickets name;
       good = λ files e. record {
         honest = λ st. subst (IsHonestFile file_grammars (source_of p.settings.block w.time (history_on job.side w) job) st.honest.folder (seal_name w job) (manifest_text (manifest_of job.hand.map.noted))) (sym name)
-            (λ u. seal_honest k p.settings.block w.time w.tickets w.tickets (history_on job.side w) files job (seal_name w job) (h.stored files e).ordered j st g);
-        lists = λ names l. seal_lists k p.settings.block w.time w.tickets w.tickets (history_on job.side w) job j some names (sym (ap (λ (x : Name). listed_by file_grammars x (manifest_text (manifest_of job.hand.map.noted))) name) ∙ l);
+            (λ u. seal_honest k p.settings.block w.time w.tickets w.tickets (history_on job.side w) files job (seal_name w job) (h.stored files e).ordered j st g fits);
+        lists = λ names l. seal_lists k p.settings.block w.time w.tickets w.tickets (history_on job.side w) job j some fits names (sym (ap (λ (x : Name). listed_by file_grammars x (manifest_text (manifest_of job.hand.map.noted))) name) ∙ l);
       };
       after = sealed_sound p.settings.block w.time (w.tickets + 1) (history_on job.side w) job (job_grown p.settings.block w.time w.time w.tickets (w.tickets + 1) (history_on job.side w) (history_on job.side w) job (same_time w.time) (later_tickets w.tickets) j.logged j);
       stored = λ files there st. record { honest = st.honest; there = tt; listed = st.listed };
@@ -179,7 +179,11 @@ seal_order k p w place job h at g t =
 
 seal_tested_keeps : (k : Known) (p : Workload) (w : State) (found : Found) (luck : Luck) (o : Option Bytes) → Sound p w → slice_get w.jobs found.place ≡ Some found.job → gap found.job.hand.map ≡ o → Sound p (seal_tested w found luck o).state
 seal_tested_keeps k p w found luck (Some key) h at g = sound_gone p w h
-seal_tested_keeps k p w found luck None h at g = putting_keeps k p w found.place found.job (with_seal found.job).hand (seal_name w found.job) (manifest_text (manifest_of found.job.hand.map.noted)) luck h at (seal_order k p w found.place found.job h at g)
+seal_tested_keeps k p w found luck None h at g = go (nat_lt most_bytes (snapshot_bytes found.job)) refl
+  where
+    go : (b : Bool) → nat_lt most_bytes (snapshot_bytes found.job) ≡ b → Sound p (cond b (moved (Err NoMemory) w) (seal_fitting w found luck)).state
+    go true e = h
+    go false e = putting_keeps k p w found.place found.job (with_seal found.job).hand (seal_name w found.job) (manifest_text (manifest_of found.job.hand.map.noted)) luck h at (seal_order k p w found.place found.job h at g (ltb-false most_bytes (snapshot_bytes found.job) e))
 
 pub seal_keeps : (k : Known) (p : Workload) (w : State) (luck : Luck) (found : Found) → Sound p w → slice_get w.jobs found.place ≡ Some found.job → Sound p (seal_job w luck found).state
 seal_keeps k p w luck found h at = seal_tested_keeps k p w found luck (gap found.job.hand.map) h at refl

@@ -1,5 +1,5 @@
 -- The laws of other crates, as the machine's proofs use them.
-use Rattle.std.specs.Prelude.{◌≡◌, ◌≢◌, ℕ, ◌<◌, ◌≤◌, Bool, true, false, not, ◌&&◌, ◌==◌, List, [], ◌∷◌, length, min, nat_le, refl}
+use Rattle.std.specs.Prelude.{◌≡◌, ◌≢◌, ℕ, ◌<◌, ◌≤◌, Bool, true, false, not, ◌&&◌, ◌==◌, List, [], ◌∷◌, length, nat_le, refl}
 use Rattle.std.specs.List.{AllByRecursion, list_all}
 use Rattle.std.proofs.Common.{ap, sym, ◌∙◌, arith, subst, option_map, inl, inr}
 use Rattle.std.proofs.lemmas.Bool.{and_parts, and_from, eqb-true}
@@ -103,16 +103,12 @@ all_of : (P : Bytes → Type 0) (names : List Bytes) → ((name : Bytes) → IsI
 all_of P [] f = tt
 all_of P (x ∷ xs) f = (f x (inl refl), all_of P xs (λ name i. f name (inr i)))
 
-min_below : (a b : ℕ) → min a b ≤ a
-min_below a b = omega arith
-
 manifests_known : ManifestsKnown
 manifests_known = record {
   honest = λ s folder noted file l r p t b e c. honest_manifest_law s folder noted (some noted l) r p t file (record { begin = b; end = e; content = c });
   whole = λ noted l r d. (whole_law noted (some noted l) r d).whole;
   order = order;
   end = end_most;
-  bytes = λ noted. let b = manifest_law.bytes noted in subst (λ (n : ℕ). n ≤ 9223372036854775807) (sym b) (min_below _ _);
   listed = λ tickets noted a. all_of (IsDrawn tickets) (manifest_of noted).files (λ name i. name_in_of (IsDrawn tickets) noted name a ((manifest_law.files noted name).0 i));
   written = λ m ticket w b. printed.written_is_manifest m ticket w (let l : m.bytes < 18446744073709551616 = omega arith in l);
 }

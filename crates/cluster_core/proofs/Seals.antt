@@ -1,5 +1,5 @@
 -- The manifests of hand jobs are honest.
-use Rattle.std.specs.Prelude.{◌≡◌, ℕ, ◌<◌, Bool, true, false, not, List, [], ◌∷◌, length, Some, None, refl}
+use Rattle.std.specs.Prelude.{◌≡◌, ℕ, ◌<◌, ◌≤◌, Bool, true, false, not, List, [], ◌∷◌, length, Some, None, refl}
 use Rattle.std.specs.List.{AllByRecursion}
 use Rattle.std.proofs.Common.{ap, sym, ◌∙◌, arith, subst}
 use Rattle.fb_bytes.specs.Bytes.{Bytes, is_below}
@@ -72,25 +72,25 @@ version_noted block now tickets noted h = ap version_in h.name
 pub sealed_whole : (k : Known) (block now tickets : ℕ) (history : List Entry) (job : Job) → IsJobSound block now tickets history job → 0 < length job.hand.map.noted → IsWhole (manifest_of job.hand.map.noted)
 sealed_whole k block now tickets history job h some = k.manifests.whole job.hand.map.noted some (All-weaker (IsNoted block now tickets) (λ n. version_of n.file.name ≡ Some n.file.version) job.hand.map.noted (version_noted block now tickets) h.noted) h.distinct
 
-pub seal_content : (k : Known) (job : Job) (ticket : ℕ) → IsWhole (manifest_of job.hand.map.noted) → file_grammars.manifest (name_for (manifest_of job.hand.map.noted) ticket) (manifest_text (manifest_of job.hand.map.noted)) ≡ Some (manifest_of job.hand.map.noted).files
-seal_content k job ticket w = k.contents.manifest (name_for (manifest_of job.hand.map.noted) ticket) (manifest_text (manifest_of job.hand.map.noted)) (manifest_of job.hand.map.noted) (k.manifests.written (manifest_of job.hand.map.noted) ticket w (k.manifests.bytes job.hand.map.noted))
+pub seal_content : (k : Known) (job : Job) (ticket : ℕ) → IsWhole (manifest_of job.hand.map.noted) → (manifest_of job.hand.map.noted).bytes ≤ 9223372036854775807 → file_grammars.manifest (name_for (manifest_of job.hand.map.noted) ticket) (manifest_text (manifest_of job.hand.map.noted)) ≡ Some (manifest_of job.hand.map.noted).files
+seal_content k job ticket w fits = k.contents.manifest (name_for (manifest_of job.hand.map.noted) ticket) (manifest_text (manifest_of job.hand.map.noted)) (manifest_of job.hand.map.noted) (k.manifests.written (manifest_of job.hand.map.noted) ticket w fits)
 
-pub seal_honest : (k : Known) (block now tickets ticket : ℕ) (history : List Entry) (files : List File) (job : Job) (name : Bytes) → AreFiles files → IsJobSound block now tickets history job → (st : IsStored block now tickets history files job) → gap job.hand.map ≡ None
+pub seal_honest : (k : Known) (block now tickets ticket : ℕ) (history : List Entry) (files : List File) (job : Job) (name : Bytes) → AreFiles files → IsJobSound block now tickets history job → (st : IsStored block now tickets history files job) → gap job.hand.map ≡ None → (manifest_of job.hand.map.noted).bytes ≤ 9223372036854775807
     → IsHonestManifest (source_of block now history job) st.honest.folder.ranges (manifest_file file_grammars name (manifest_text (manifest_of job.hand.map.noted)) (name_for (manifest_of job.hand.map.noted) ticket) (manifest_of job.hand.map.noted).begin (manifest_of job.hand.map.noted).end)
-seal_honest k block now tickets ticket history files job name o h st g =
+seal_honest k block now tickets ticket history files job name o h st g fits =
     let tiled = tiles k job.hand.map.ranges job.hand.map.noted h.ranges.separate h.pieces h.inside g in
     let some = some_noted job.hand.map.ranges job.hand.map.noted h.some h.ranges.separate tiled in
     k.manifests.honest (source_of block now history job) st.honest.folder.ranges job.hand.map.noted _ some
     (all_read k block now tickets job.container files st.honest.folder job.hand.map.noted o st.honest.decoded h.noted st.there)
-    h.pieces tiled refl refl (seal_content k job ticket (sealed_whole k block now tickets history job h some))
+    h.pieces tiled refl refl (seal_content k job ticket (sealed_whole k block now tickets history job h some) fits)
 
 drawn_noted : (block now tickets : ℕ) (noted : Noted) → IsNoted block now tickets noted → IsDrawn tickets noted.file.name
 drawn_noted block now tickets noted h = record { snapshot = h.snapshot; version = noted.file.version; ticket = h.ticket; block = block; read = h.name; drawn = h.drawn }
 
 -- it lists files with drawn tickets
-pub seal_lists : (k : Known) (block now tickets ticket : ℕ) (history : List Entry) (job : Job) → IsJobSound block now tickets history job → 0 < length job.hand.map.noted → (names : List Bytes) → listed_by file_grammars (name_for (manifest_of job.hand.map.noted) ticket) (manifest_text (manifest_of job.hand.map.noted)) ≡ Some names → AllByRecursion (IsDrawn tickets) names
-seal_lists k block now tickets ticket history job h some names l =
-    let same : (manifest_of job.hand.map.noted).files ≡ names = some_is (manifest_of job.hand.map.noted).files names (sym (seal_content k job ticket (sealed_whole k block now tickets history job h some)) ∙ l) in
+pub seal_lists : (k : Known) (block now tickets ticket : ℕ) (history : List Entry) (job : Job) → IsJobSound block now tickets history job → 0 < length job.hand.map.noted → (manifest_of job.hand.map.noted).bytes ≤ 9223372036854775807 → (names : List Bytes) → listed_by file_grammars (name_for (manifest_of job.hand.map.noted) ticket) (manifest_text (manifest_of job.hand.map.noted)) ≡ Some names → AllByRecursion (IsDrawn tickets) names
+seal_lists k block now tickets ticket history job h some fits names l =
+    let same : (manifest_of job.hand.map.noted).files ≡ names = some_is (manifest_of job.hand.map.noted).files names (sym (seal_content k job ticket (sealed_whole k block now tickets history job h some) fits) ∙ l) in
     subst (AllByRecursion (IsDrawn tickets)) same (k.manifests.listed tickets job.hand.map.noted (All-weaker (IsNoted block now tickets) (λ n. IsDrawn tickets n.file.name) job.hand.map.noted (drawn_noted block now tickets) h.noted))
   where
     some_is : (a b : List Bytes) → Some a ≡ Some b → a ≡ b

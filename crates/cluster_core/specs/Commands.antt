@@ -10,7 +10,7 @@ use Rattle.log_files.specs.Writing.{log_text}
 use Rattle.manifests.specs.Grammar.{manifest_text}
 use Rattle.container_view.specs.Files.{whole_name}
 use Rattle.container_view.specs.Names.{names_inside}
-use Rattle.snapshot_plan.specs.Noted.{pieces_of, gap, manifest_of}
+use Rattle.snapshot_plan.specs.Noted.{pieces_of, gap, manifest_of, most_bytes}
 use Rattle.snapshot_plan.specs.Pieces.{outside, overlap}
 use Rattle.snapshot_plan.specs.declared.Done as plans
 use Rattle.database.specs.Commits.{most_version}
@@ -202,11 +202,21 @@ seal_name state job = text_of (manifest_name job.hand state.tickets)
 abbrev pub with_seal : Job → Job
 with_seal job = record job { hand = sealed job.hand }
 
-abbrev pub seal_put : machine.State → Found → Luck → Moved
-seal_put state found luck =
+-- the bytes of all files of a job's snapshot
+abbrev pub snapshot_bytes : Job → ℕ
+snapshot_bytes job = (manifest_of job.hand.map.noted).bytes
+
+abbrev pub seal_fitting : machine.State → Found → Luck → Moved
+seal_fitting state found luck =
     putting state (whole_name found.job.container (seal_name state found.job))
     (manifest_text (manifest_of found.job.hand.map.noted))
     (with_job found.place (with_seal found.job) state) luck
+
+-- more bytes than a name has room for are want of memory
+abbrev pub seal_put : machine.State → Found → Luck → Moved
+seal_put state found luck =
+    if nat_lt most_bytes (snapshot_bytes found.job) then moved (Err NoMemory) state
+    else seal_fitting state found luck
 
 abbrev pub seal_tested : machine.State → Found → Luck → Option Bytes → Moved
 seal_tested state found luck (Some key) = refuses (Untiled key) state

@@ -8,3 +8,4 @@ pub mod Sound
 pub mod Elsewhere
 pub mod Laws
 pub mod World
+pub mod LeastKeys

@@ -1,4 +1,5 @@
 ghost use Rattle.cluster_core.specs.Elsewhere.{ElsewhereLaw};
+ghost use Rattle.cluster_core.specs.LeastKeys.{LeastKeyLaw};
 ghost use Rattle.cluster_core.specs.Laws.{OpeningLaw, StepLaw, RunLaw, FaithfulLaw};
 
 /// The opening state of each workload is sound.
@@ -24,4 +25,9 @@ pub fn faithful_law()
 /// No step changes a file outside the containers of the jobs.
 pub fn elsewhere_law()
     ensures { ElsewhereLaw }
+{}
+
+/// In a sound state a dump and a seal of a job that runs are refused for the least keys alone.
+pub fn least_key_law()
+    ensures { LeastKeyLaw }
 {}

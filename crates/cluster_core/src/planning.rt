@@ -5,7 +5,7 @@ ghost use Rattle.block_frame.specs.Profiles.{key_limit_of};
 ghost use Rattle.mutations.specs.Histories.{logged};
 ghost use Rattle.container_view.specs.Files as files;
 ghost use Rattle.manifests.specs.Grammar.{name_for, manifest_text};
-ghost use Rattle.snapshot_plan.specs.Noted.{gap, manifest_of};
+ghost use Rattle.snapshot_plan.specs.Noted.{gap, manifest_of, most_bytes};
 ghost use Rattle.workload_text.specs.Commands.{IsCommand, IsPiece};
 ghost use Rattle.database.specs.Commits.{most_version};
 ghost use Rattle.backup_core.specs.Hand.{text_of, range_name, log_name, manifest_name};
@@ -349,6 +349,7 @@ impl<V: Vault> World<V> {
         requires at { slice_get self.now.state.jobs place ≡ Some job.now }
         requires tiled { gap job.now.hand.map ≡ None }
         requires manifest { manifest.now ≡ manifest_of job.now.hand.map.noted }
+        requires fits { manifest.now.bytes ≤ most_bytes }
         ensures file { IfOk result (λ filing. filing ≡ record { place = place; job = commands.with_seal job.now; whole = files.whole_name job.now.container (commands.seal_name self.now.state job.now); bytes = manifest_text (manifest_of job.now.hand.map.noted) }) }
         ensures drawn { IfOk result (λ _. self.now.state.tickets ≤ most_version) }
     {

@@ -1,4 +1,4 @@
-use Rattle.std.proofs.Common.{◌≡◌, IfOk, subst}
+use Rattle.std.proofs.Common.{◌≡◌, IfOk, subst, arith}
 use Rattle.cluster_core.specs.declared.plan.Filing.{Filing}
 use Rattle.cluster_core.specs.World.{Seen}
 use Rattle.cluster_core.specs.Sound.{Sound}
@@ -15,7 +15,7 @@ pub manifest_name-requires-clause-end : goal.manifest_name-requires-clause-end
 manifest_name-requires-clause-end g c κs within = (sealable c.args.self.now.workload c.args.self.now.state c.args.place c.args.job.now c.args.manifest.now (subst (λ (seen : Seen). Sound seen.workload seen.state) c.self.view_is c.self.invariant.sound) c.requires.at c.requires.tiled c.requires.manifest).end
 
 pub manifest_name-requires-clause-bytes : goal.manifest_name-requires-clause-bytes
-manifest_name-requires-clause-bytes g c κs within = (sealable c.args.self.now.workload c.args.self.now.state c.args.place c.args.job.now c.args.manifest.now (subst (λ (seen : Seen). Sound seen.workload seen.state) c.self.view_is c.self.invariant.sound) c.requires.at c.requires.tiled c.requires.manifest).bytes
+manifest_name-requires-clause-bytes g c κs within = let fits = c.requires.fits in omega arith
 
 pub returns-clause-file : goal.returns-clause-file
 returns-clause-file g c = subst (λ (f : Filing). IfOk c.filing.result (λ filing. filing ≡ f)) (seal_filed c.args.self.now.state c.args.place c.args.job.now c.args.manifest.now c.seal.new.self c.in_ok-hand.hand c.hand.result.now c.in_ok-name.name c.in_ok-bytes.bytes c.requires.manifest c.seal.ensures c.in_ok-hand.ensures c.hand.ensures c.in_ok-name.ensures.name c.in_ok-bytes.ensures.text) c.filing.ensures

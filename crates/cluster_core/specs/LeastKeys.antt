@@ -1,0 +1,32 @@
+-- The keys that the refusals of a dump and of a seal name.
+use Rattle.std.specs.Prelude.{◌≡◌, false, Some}
+use Rattle.fb_bytes.specs.Bytes.{Bytes}
+use Rattle.fb_bytes.specs.declared.KeyRange.{KeyRange}
+use Rattle.snapshot_plan.specs.Laws.{IsOutside, IsInside, IsHeld, IsApart, IsUntiled, IsTiled}
+use Rattle.workload_text.specs.declared.Command.TheVariants.{Dump, Seal}
+use Rattle.workload_text.specs.declared.Workload.{Workload}
+use Rattle.cluster_core.specs.declared.refusal.Refusal.TheVariants.{OutsideRanges, Overlap, Untiled}
+use Rattle.cluster_core.specs.Jobs.{Found, newest}
+use Rattle.cluster_core.specs.State.{State}
+use Rattle.cluster_core.specs.Moves.{Luck, Moved}
+use Rattle.cluster_core.specs.Commands.{refuses, dump_put, seal_put, command_gives}
+use Rattle.cluster_core.specs.Sound.{Sound}
+
+-- A dump is refused for the least key of its piece outside the job's ranges, else for the least that is held.
+pub record DumpsBy (found : Found) (piece : KeyRange) (w : State) (gives put : Moved) : Type 0 where
+  pub outside : (key : Bytes) → IsOutside found.job.hand.map piece key → gives ≡ refuses (OutsideRanges key) w
+  pub held : (key : Bytes) → IsInside found.job.hand.map piece → IsHeld found.job.hand.map piece key
+      → gives ≡ refuses (Overlap key) w
+  pub free : IsInside found.job.hand.map piece → IsApart found.job.hand.map piece → gives ≡ put
+
+-- A seal is refused for the least key of the job's ranges that no noted piece holds.
+pub record SealsBy (found : Found) (w : State) (gives put : Moved) : Type 0 where
+  pub untiled : (key : Bytes) → IsUntiled found.job.hand.map key → gives ≡ refuses (Untiled key) w
+  pub tiled : IsTiled found.job.hand.map → gives ≡ put
+
+-- In a sound state the newest job with a tag, where it hasn't ended, dumps and seals by the least keys alone.
+abbrev pub LeastKeyLaw : Type 0
+LeastKeyLaw = (p : Workload) (w : State) (luck : Luck) (tag : Bytes) (piece : KeyRange) (found : Found) → Sound p w
+    → newest tag w.jobs ≡ Some found → found.job.hand.aborted ≡ false
+    → DumpsBy found piece w (command_gives p.settings w luck (Dump tag piece)) (dump_put p.settings w found piece luck)
+    × SealsBy found w (command_gives p.settings w luck (Seal tag)) (seal_put w found luck)
