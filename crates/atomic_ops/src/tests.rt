@@ -95,3 +95,11 @@ fn a_code_and_a_word_give_their_operation(rt: HostRuntime) {
         assert!(rt; Op::from_word(word.as_bytes()) == Some(op));
     }
 }
+
+fn crosses<T: Send + Sync>() {}
+
+/// Threads may hand these on and share them.
+#[test]
+fn types_cross_threads() {
+    crosses::<Op>();
+}

@@ -46,6 +46,13 @@ pub fn is_over(bytes: &[u8]) -> bool
     }
 }
 
+/// The place of the first byte that isn't padding.
+pub fn unpadded_at(bytes: &[u8]) -> Option<usize>
+    ensures { result ≡ text.unpadded_at bytes.now }
+{
+    bytes.iter().position(|byte| !(*byte == 0xff))
+}
+
 /// Writes a string behind its length, at the end.
 pub fn push_string(out: &mut Vec<u8>, string: &[u8]) -> Result<(), AllocError>
     requires { length string.now < 2 ^ 32 }

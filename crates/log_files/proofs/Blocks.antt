@@ -1,80 +1,38 @@
 -- Blocks: what is read is in the grammar, and what is in the grammar is read.
-use Rattle.std.proofs.Common.{◌≡◌, ℕ, zero, suc, ◌+◌, ◌-◌, ◌^◌, ◌<◌, ◌≤◌, Bool, true, false, not, cond, eqb, ltb, List, [], ◌∷◌, ◌++◌, length, take, drop, map, Option, Some, None, Result, Ok, Err, refl, sym, ap, subst, ◌∙◌, append_assoc, arith, lit<, inl, inr}
+use Rattle.std.proofs.Common.{◌≡◌, ℕ, zero, suc, ◌+◌, ◌-◌, ◌^◌, ◌<◌, ◌≤◌, Bool, true, false, cond, eqb, List, [], ◌∷◌, ◌++◌, length, take, drop, map, Option, Some, None, Result, Ok, Err, refl, sym, ap, subst, ◌∙◌, append_assoc, arith, lit<, inl, inr}
 use Rattle.std.specs.Prelude.{◌⊎◌}
-use Rattle.std.specs.List.{AllByRecursion, prefix_len}
-use Rattle.std.proofs.lemmas.Bool.{eqb-true, eq-eqb, ltb-false, le-ltb, cond-true, cond-false, cases_lt}
+use Rattle.std.specs.List.{AllByRecursion}
+use Rattle.std.proofs.lemmas.Bool.{eqb-true, cases_lt}
 use Rattle.std.proofs.lemmas.List.{append-nil, length-drop, length-append, map-append, take_all, drop_all, take_at, drop_at, take-append-drop, length-take}
 use Rattle.fb_bytes.specs.Bytes.{Bytes, IsBytes}
-use Rattle.block_frame.specs.Text.{header, string, header_at, string_at, is_over, IsPadding}
+use Rattle.block_frame.specs.Text.{header, string, header_at, string_at, is_over, IsPadding, unpadded_at}
 use Rattle.block_frame.proofs.Strings.{IsBytes-take, IsBytes-drop, header_found, header_again, IsString, string_found, string_again, string_not_over, not_over_short}
 use Rattle.log_files.specs.declared.record.Record.{Record}
 use Rattle.log_files.specs.declared.fault.LogFault.{LogFault}
 use Rattle.log_files.specs.declared.fault.LogFault.TheVariants as faults
 use Rattle.log_files.specs.Reading.{format, ◌>>=◌, found_or, string_or, record_at, records_at, padding_at, unless_padded, header_or, block_records, SoFar, taken, all_taken, blocks_from}
 use Rattle.log_files.specs.Grammar.{Row, row_text, rows_text, RowFits, IsLogBlock, LogBlocks, NoBlock, NextBlock}
+use Rattle.fb_bytes.proofs.Results.{bind_ok}
+use Rattle.block_frame.proofs.Steps.{found_or_ok, ok_is, test_ok}
+use Rattle.block_frame.proofs.Padding.{padding_found, padding_again, padding_over}
 use Rattle.log_files.proofs.Records.{over, one_more, no_key, no_value}
 use Rattle.log_files.proofs.Loops.{none_left, step_is}
 
-pub bind_ok : {A B : Type 0} (r : Result A LogFault) (f : A → Result B LogFault) (y : B) → (r >>= f) ≡ Ok y → (x : A) × (r ≡ Ok x) × (f x ≡ Ok y)
-bind_ok (Ok x) f y e = (x, refl, e)
-bind_ok (Err d) f y e = absurd cc
-
-pub found_or_ok : {A : Type 0} (fault : LogFault) (o : Option A) (x : A) → found_or fault o ≡ Ok x → o ≡ Some x
-found_or_ok fault (Some y) x e = cc
-found_or_ok fault None x e = absurd cc
-
-pub ok_is : {A : Type 0} (x y : A) (r : Result A LogFault) → r ≡ Ok x → r ≡ Ok y → x ≡ y
-ok_is x y (Ok z) p q = let left : z ≡ x = cc in let right : z ≡ y = cc in sym left ∙ right
-ok_is x y (Err d) p q = absurd cc
-
-pub test_ok : {A : Type 0} (b : Bool) (r : Result A LogFault) (fault : LogFault) (x : A) → cond b r (Err fault) ≡ Ok x → (b ≡ true) × (r ≡ Ok x)
-test_ok true r fault x e = (refl, e)
-test_ok false r fault x e = absurd cc
-
 -- ---- padding
 
-full_prefix : (q : ℕ → Bool) (xs : Bytes) → length xs ≤ prefix_len q xs → AllByRecursion (λ x. q x ≡ true) xs
-full_prefix q [] h = tt
-full_prefix q (x ∷ xs) h = go (q x) refl h (full_prefix q xs)
-  where
-    go : (b : Bool) → q x ≡ b → length (x ∷ xs) ≤ cond b (1 + prefix_len q xs) 0 → (length xs ≤ prefix_len q xs → AllByRecursion (λ y. q y ≡ true) xs) → (q x ≡ true) × AllByRecursion (λ y. q y ≡ true) xs
-    go true e g more = (e, more (omega arith))
-    go false e g more = absurd (omega arith)
-
-padding_each : (xs : Bytes) → AllByRecursion (λ x. not (not (eqb x 255)) ≡ true) xs → IsPadding xs
-padding_each [] h = tt
-padding_each (x ∷ xs) h = (eqb-true x 255 (twice (eqb x 255) h.0), padding_each xs h.1)
-  where
-    twice : (b : Bool) → not (not b) ≡ true → b ≡ true
-    twice true e = refl
-    twice false e = absurd cc
-
-prefix_padding : (xs : Bytes) → IsPadding xs → prefix_len (λ x. not (not (eqb x 255))) xs ≡ length xs
-prefix_padding [] h = refl
-prefix_padding (x ∷ xs) h =
-    let same : not (not (eqb x 255)) ≡ true = ap (λ (b : Bool). not (not b)) (eq-eqb x 255 h.0) in
-    cond-true (not (not (eqb x 255))) (1 + prefix_len (λ y. not (not (eqb y 255))) xs) 0 same ∙ omega (arith, prefix_padding xs h.1)
-
-padding_go : {A : Type 0} (b : Bool) (at n : ℕ) (x y : A) → padding_at at (cond b (Some n) None) x ≡ Ok y → (b ≡ false) × (x ≡ y)
-padding_go true at n x y e = absurd cc
-padding_go false at n x y e = (refl, ok_is x y (Ok x) refl e)
+padding_go : {A : Type 0} (at : ℕ) (o : Option ℕ) (x y : A) → padding_at at o x ≡ Ok y → (o ≡ None) × (x ≡ y)
+padding_go at (Some n) x y e = absurd cc
+padding_go at None x y e = (refl, ok_is x y (Ok x) refl e)
 
 padded_found : {A : Type 0} (t : ℕ) (rest : Bytes) (x y : A) → unless_padded t rest x ≡ Ok y → IsPadding rest × (x ≡ y)
 unfolding unless_padded
 padded_found t rest x y e =
-    let n = prefix_len (λ b. not (not (eqb b 255))) rest in
-    let g = padding_go (ltb n (length rest)) (t - length rest) n x y e in
-    (padding_each rest (full_prefix (λ b. not (not (eqb b 255))) rest (ltb-false _ _ g.0)), g.1)
+    let g = padding_go (t - length rest) (unpadded_at rest) x y e in
+    (padding_found rest g.0, g.1)
 
 padded_again : {A : Type 0} (t : ℕ) (rest : Bytes) (x : A) → IsPadding rest → unless_padded t rest x ≡ Ok x
 unfolding unless_padded
-padded_again t rest x h =
-    let n = prefix_len (λ b. not (not (eqb b 255))) rest in
-    ap (λ (o : Option ℕ). padding_at (t - length rest) o x) (cond-false (ltb n (length rest)) (Some n) None (le-ltb _ _ (omega (arith, prefix_padding rest h))))
-
-padding_over : (rest : Bytes) → IsPadding rest → is_over rest ≡ true
-padding_over [] h = refl
-padding_over (x ∷ xs) h = eq-eqb x 255 h.0
+padded_again t rest x h = ap (λ (o : Option ℕ). padding_at (t - length rest) o x) (padding_again rest h)
 
 -- ---- records
 

@@ -10,7 +10,9 @@ use Rattle.log_files.specs.declared.fault.LogFault.TheVariants as faults
 use Rattle.log_files.specs.Reading.{Fails, ◌>>=◌, SoFar, nothing_yet, finished, blocks_from, read, ok_side}
 use Rattle.log_files.specs.Grammar.{LogFile}
 use Rattle.log_files.specs.Laws.{ReadIsLog, LogIsRead, OneLog}
-use Rattle.log_files.proofs.Blocks.{bind_ok, ok_is, bares, blocks_found, blocks_again}
+use Rattle.fb_bytes.proofs.Results.{bind_ok}
+use Rattle.block_frame.proofs.Steps.{ok_is}
+use Rattle.log_files.proofs.Blocks.{bares, blocks_found, blocks_again}
 use Rattle.log_files.proofs.Batches.{joins_found, spelled_again}
 
 nothing_finished : (begin : ℕ) → finished (nothing_yet begin) ≡ Ok (nothing_yet begin)

@@ -1,7 +1,7 @@
 -- The loops over the records of a block, and over the blocks.
-use Rattle.std.proofs.Common.{◌≡◌, ℕ, zero, suc, ◌+◌, ◌<◌, ◌≤◌, Bool, true, false, eqb, List, [], ◌∷◌, length, get_or, take, drop, min, Result, Ok, Err, refl, sym, ap, ◌∙◌, arith, inl, inr}
-use Rattle.std.proofs.lemmas.Bool.{cases_lt, eqb-true}
-use Rattle.std.proofs.lemmas.List.{drop_more, drop_all, take_all, length-drop}
+use Rattle.std.proofs.Common.{◌≡◌, ℕ, zero, suc, ◌+◌, ◌<◌, ◌≤◌, Bool, true, false, eqb, List, [], ◌∷◌, length, get_or, take, drop, Result, Ok, Err, refl, sym, ap, ◌∙◌, arith}
+use Rattle.std.proofs.lemmas.Bool.{eqb-true}
+use Rattle.std.proofs.lemmas.List.{drop_more, drop_all, length-drop}
 use Rattle.fb_bytes.specs.Bytes.{Bytes}
 use Rattle.log_files.specs.declared.record.Record.{Record}
 use Rattle.log_files.specs.declared.fault.LogFault.{LogFault}
@@ -75,20 +75,6 @@ blocks_untaken size end base before rest rows fault total some e t s =
     sym s.same ∙ ap (λ (n : ℕ). blocks_from n size end base before rest) f.1 ∙ step_is f.0 size end base before rest some
     ∙ ap (λ (r : Result (List Record) LogFault). r >>= λ rs. all_taken end before rs >>= λ more. blocks_from f.0 size end (base + size) more (drop size rest)) e
     ∙ ap (λ (r : Result SoFar LogFault). r >>= λ more. blocks_from f.0 size end (base + size) more (drop size rest)) t
-
-pub piece_is : (n mid : ℕ) (bytes piece : Bytes) → mid ≡ min (length bytes) n → piece ≡ take mid bytes → piece ≡ take n bytes
-piece_is n mid bytes piece m e =
-    e ∙ ap (λ (k : ℕ). take k bytes) m ∙ elim (cases_lt (length bytes) n) [
-      | inl less ↦ (let k : min (length bytes) n ≡ length bytes = omega arith in ap (λ (i : ℕ). take i bytes) k ∙ take_all (length bytes) bytes (omega arith) ∙ sym (take_all n bytes (omega arith)))
-      | inr more ↦ (let k : min (length bytes) n ≡ n = omega arith in ap (λ (i : ℕ). take i bytes) k)
-    ]
-
-pub rest_is : (n mid : ℕ) (bytes rest : Bytes) → mid ≡ min (length bytes) n → rest ≡ drop mid bytes → rest ≡ drop n bytes
-rest_is n mid bytes rest m e =
-    e ∙ ap (λ (k : ℕ). drop k bytes) m ∙ elim (cases_lt (length bytes) n) [
-      | inl less ↦ (let k : min (length bytes) n ≡ length bytes = omega arith in ap (λ (i : ℕ). drop i bytes) k ∙ drop_all (length bytes) bytes (omega arith) ∙ sym (drop_all n bytes (omega arith)))
-      | inr more ↦ (let k : min (length bytes) n ≡ n = omega arith in ap (λ (i : ℕ). drop i bytes) k)
-    ]
 
 pub some_left : (n : ℕ) (b : Bool) → b ≡ eqb n 0 → b ≡ false → 0 < n
 some_left zero b e f = absurd (let both = sym e ∙ f in cc)

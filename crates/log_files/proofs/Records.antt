@@ -1,21 +1,14 @@
 -- Records one after the other, as a loop reads them.
-use Rattle.std.proofs.Common.{◌≡◌, ℕ, zero, suc, ◌+◌, ◌-◌, ◌<◌, true, false, List, [], ◌∷◌, ◌++◌, length, Option, Some, None, Result, Ok, Err, refl, sym, ap, ◌∙◌, append_assoc, arith, inl, inr}
+use Rattle.std.proofs.Common.{◌≡◌, ℕ, zero, suc, ◌+◌, ◌-◌, ◌<◌, true, false, List, [], ◌∷◌, ◌++◌, length, Result, Ok, Err, refl, sym, ap, ◌∙◌, append_assoc, arith}
 use Rattle.std.proofs.lemmas.List.{append-nil}
 use Rattle.fb_bytes.specs.Bytes.{Bytes}
 use Rattle.block_frame.specs.Text.{string_at, is_over}
+use Rattle.block_frame.proofs.Steps.{found_or_ok}
 use Rattle.block_frame.proofs.Strings.{string_size}
 use Rattle.log_files.specs.declared.record.Record.{Record}
 use Rattle.log_files.specs.declared.fault.LogFault.{LogFault}
 use Rattle.log_files.specs.declared.fault.LogFault.TheVariants as faults
-use Rattle.log_files.specs.Reading.{Fails, ◌>>=◌, found_or, string_or, record_at, records_at}
-
-pub fails_on : {A B : Type 0} (fault : LogFault) (r : Result A LogFault) (total : Result B LogFault) → (r ≡ Err fault → total ≡ Err fault) → Fails fault r → Fails fault total
-fails_on fault r total h (inl memory) = inl memory
-fails_on fault r total h (inr met) = inr (h met)
-
-found_or_ok : {A : Type 0} (fault : LogFault) (o : Option A) (x : A) → found_or fault o ≡ Ok x → o ≡ Some x
-found_or_ok fault (Some y) x e = cc
-found_or_ok fault None x e = absurd cc
+use Rattle.log_files.specs.Reading.{◌>>=◌, string_or, record_at, records_at}
 
 pub string_or_size : (t : ℕ) (bytes : Bytes) (x : Bytes × Bytes) → string_or t bytes ≡ Ok x → 4 + length x.0 + length x.1 ≡ length bytes
 unfolding string_or

@@ -5,13 +5,14 @@ use Rattle.std.proofs.lemmas.Bool.{ne_eqb, le-leb, lt-leb, leb-true, leb-false}
 use Rattle.std.proofs.lemmas.List.{append-nil, length-append, length-replicate, length-take, length-drop, take-append-drop}
 use Rattle.fb_bytes.specs.Bytes.{Bytes}
 use Rattle.fb_bytes.specs.Blocks.{is_block}
-use Rattle.block_frame.specs.Text.{header, string, IsPadding}
+use Rattle.block_frame.specs.Text.{header, string}
 use Rattle.block_frame.specs.Profiles.{part_of, IsRoomy}
 use Rattle.block_frame.specs.Frames.{Frames, no_frames, framed, begun, padded, text}
 use Rattle.mutations.specs.declared.Batch.{Batch}
 use Rattle.mutations.specs.Spelling.{u32_bytes, u64_bytes, protocol, mutations_spelling, batch_spelling}
 use Rattle.mutations.proofs.Lengths.{length-u32_bytes, length-u64_bytes}
 use Rattle.log_files.specs.Reading.{format}
+use Rattle.block_frame.proofs.Padding.{padding_is}
 use Rattle.log_files.specs.Grammar.{Row, row_key, row_text, rows_text, RowFits, IsLogBlock, LogBlocks, NoBlock, NextBlock, rows_of, joined, Spell, LogFile}
 use Rattle.log_files.specs.Writing.{pieces_with, pieces_of, with_rows, with_batches, log_text, AreLogged, IsWritable}
 use Rattle.log_files.specs.Laws.{WrittenIsLog, WrittenIsRead}
@@ -52,10 +53,6 @@ all_back size (x ∷ xs) ys h = all_back size xs ys h.1
 all_both : (size : ℕ) (xs ys : List Row) → AllByRecursion (Fits size) xs → AllByRecursion (Fits size) ys → AllByRecursion (Fits size) (xs ++ ys)
 all_both size [] ys p q = q
 all_both size (x ∷ xs) ys p q = (p.0, all_both size xs ys p.1 q)
-
-padding_is : (n : ℕ) → IsPadding (replicate n 255)
-padding_is zero = tt
-padding_is (suc n) = (refl, padding_is n)
 
 abbrev present_text : List Row → Bytes
 present_text rows = header format ++ rows_text rows

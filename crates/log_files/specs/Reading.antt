@@ -1,8 +1,10 @@
 -- Reading a log file from left to right, with the first fault that is met.
-use Rattle.std.specs.Prelude.{◌≡◌, ℕ, zero, suc, ◌+◌, ◌-◌, Bool, false, not, List, [], ◌∷◌, ◌++◌, length, take, drop, Option, Some, None, Result, Ok, Err, nat_le, nat_lt, ◌==◌, ◌&&◌, if◌then◌else◌, position, ◌⊎◌}
+use Rattle.std.specs.Prelude.{ℕ, zero, suc, ◌+◌, ◌-◌, Bool, false, List, [], ◌∷◌, ◌++◌, length, take, drop, Option, Some, None, Result, Ok, Err, nat_le, nat_lt, ◌==◌, ◌&&◌, if◌then◌else◌}
 use Rattle.std.specs.Int.{w32, w64, from_be_bytes}
 use Rattle.fb_bytes.specs.Bytes.{Bytes}
-use Rattle.block_frame.specs.Text.{header_at, string_at, is_over}
+pub use Rattle.fb_bytes.specs.Results.{◌>>=◌, found_or, ok_side}
+use Rattle.fb_bytes.specs.Results.{FailsBut}
+use Rattle.block_frame.specs.Text.{header_at, string_at, is_over, unpadded_at}
 use Rattle.mutations.specs.declared.Mutation.{Mutation}
 use Rattle.mutations.specs.declared.Batch.{Batch}
 use Rattle.mutations.specs.declared.WireFault.{WireFault}
@@ -15,18 +17,9 @@ use Rattle.log_files.specs.declared.fault.LogFault.TheVariants as faults
 abbrev pub format : ℕ
 format = 2001
 
--- a failed call answers want of memory, or the fault that reading meets
+-- a failed call answers want of memory, or the fault that the reading meets
 abbrev pub Fails : {A : Type 0} → LogFault → Result A LogFault → Type 0
-Fails fault reading = (fault ≡ faults.NoMemory) ⊎ (reading ≡ Err fault)
-
-infixl 10 ◌>>=◌
-abbrev pub ◌>>=◌ : {A B : Type 0} → Result A LogFault → (A → Result B LogFault) → Result B LogFault
-(Ok x) >>= f = f x
-(Err fault) >>= f = Err fault
-
-abbrev pub found_or : {A : Type 0} → LogFault → Option A → Result A LogFault
-found_or fault None = Err fault
-found_or fault (Some x) = Ok x
+Fails fault reading = FailsBut faults.NoMemory fault reading
 
 -- ---- the records of a block
 
@@ -51,7 +44,7 @@ padding_at at None x = Ok x
 padding_at at (Some place) x = Err (faults.Padding (at + place))
 
 unfoldable pub unless_padded : {A : Type 0} → ℕ → Bytes → A → Result A LogFault
-unless_padded t rest x = padding_at (t - length rest) (position (λ byte. not (byte == 255)) rest) x
+unless_padded t rest x = padding_at (t - length rest) (unpadded_at rest) x
 
 abbrev pub behind_header : ℕ → Result Bytes LogFault → Result (List Record) LogFault
 behind_header t head = head >>= λ rest. records_at (length rest + 1) t rest >>= λ found. unless_padded t found.1 found.0
@@ -157,10 +150,6 @@ blocks_from (suc fuel) size end base so_far (byte ∷ bytes) =
 -- what a reader answers: the batches, or the first fault
 unfoldable pub read : ℕ → ℕ → ℕ → Bytes → Result (List Batch) LogFault
 read size begin end bytes = blocks_from (length bytes) size end 0 (nothing_yet begin) bytes >>= finished >>= λ done. Ok done.batches
-
-abbrev pub ok_side : {A : Type 0} → Result A LogFault → Option A
-ok_side (Ok x) = Some x
-ok_side (Err fault) = None
 
 -- the batches of a log file, if the bytes are one
 abbrev pub log_file_of : ℕ → ℕ → ℕ → Bytes → Option (List Batch)

@@ -1,11 +1,11 @@
 //! The records of one block.
 
-ghost use Rattle.std.specs.Prelude.{◌≡◌, ◌+◌, ◌^◌, ◌<◌, ◌≤◌, Ok, List, length, IfOk, IfErr, OnOk, ◌==◌, not, position};
+ghost use Rattle.std.specs.Prelude.{◌≡◌, ◌+◌, ◌^◌, ◌<◌, ◌≤◌, Ok, List, length, IfOk, IfErr, OnOk};
 ghost use Rattle.log_files.specs.declared.record.Record.{Record};
 ghost use Rattle.log_files.specs.Reading as reading;
 
 use crate::fault::LogFault;
-use block_frame::{header_at, is_over, string_at};
+use block_frame::{header_at, is_over, string_at, unpadded_at};
 use fb_bytes::Blob;
 use std::alloc::Global;
 
@@ -93,17 +93,11 @@ fn unless_padded(rest: &[u8], end: u64) -> Result<(), LogFault>
     ensures ok { OnOk result ((x : List Record) → reading.unless_padded end rest.now x ≡ Ok x) }
     ensures err { IfErr result (λ fault. (x : List Record) → reading.Fails fault (reading.unless_padded end rest.now x)) }
 {
-    match first_other(rest) {
+    match unpadded_at(rest) {
         None => Ok(()),
         Some(place) => {
             let at = end - rest.len() as u64 + place as u64;
             Err(LogFault::Padding { at })
         }
     }
-}
-
-fn first_other(rest: &[u8]) -> Option<usize>
-    ensures { result ≡ position (λ byte. not (byte == 255)) rest.now }
-{
-    rest.iter().position(|byte| !(*byte == 0xff))
 }

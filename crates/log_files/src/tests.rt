@@ -1,8 +1,8 @@
-ghost use Rattle.std.specs.Prelude.{◌≡◌, ◌≤◌, ◌^◌, length, true, IfOk};
-ghost use Rattle.fb_bytes.specs.Blocks.{is_block};
+ghost use Rattle.std.specs.Prelude.{◌≡◌, ◌≤◌, ◌^◌, length, IfOk};
 ghost use Rattle.log_files.specs.Writing.{AreLogged};
 
 use super::*;
+use block_frame::Profile;
 use fb_bytes::Blob;
 use mutations::{Batch, Batches, LogChunk, Mutation, Muts, WireFault};
 use std::alloc::{AllocError, Global};
@@ -73,10 +73,10 @@ fn empty_log(rt: HostRuntime) -> Result<(), Fail> {
 }
 
 /// How long the log is whose value has these bytes, if it is read back.
-fn length_of_log(alloc: Global, block: u32, value: &[u8]) -> Result<Option<usize>, LogFault>
-    requires listed { is_block block ≡ true }
-    requires short { length value.now ≤ 2 ^ 20 }
-{
+fn length_of_log(alloc: Global, block: u32, value: &[u8]) -> Result<Option<usize>, LogFault> {
+    if Profile::from_block(block).is_none() || value.len() > 1 << 20 {
+        return Ok(None);
+    }
     let chunk = one_set(alloc, value)?;
     let text = write_log_at(alloc, block, &chunk)?;
     let back = read_log(alloc, text.as_slice(), block, 10, 21)?;
@@ -87,23 +87,19 @@ fn length_of_log(alloc: Global, block: u32, value: &[u8]) -> Result<Option<usize
     }
 }
 
-/// A batch of 25 bytes more than a part.
+/// A batch of 25 bytes more than a part; and one whose third record fills a block, so that its last
+/// byte goes into the next.
 #[test]
-fn two_parts_in_each_profile(rt: HostRuntime) -> Result<(), Fail> {
-    let alloc = rt.alloc();
+fn parts_and_blocks(rt: HostRuntime) -> Result<(), Fail> {
     let bytes = [7; 10_000];
-    assert_eq!(rt; length_of_log(alloc, 256, &bytes[..64])?, Some(133));
-    assert_eq!(rt; length_of_log(alloc, 4_096, &bytes[..1_000])?, Some(1_069));
-    assert_eq!(rt; length_of_log(alloc, 262_144, &bytes)?, Some(10_069));
-    assert_eq!(rt; length_of_log(alloc, 1_048_576, &bytes)?, Some(10_069));
-    Ok(())
-}
-
-/// Three records of 64 bytes fill a block, and one byte goes into the next.
-#[test]
-fn two_blocks(rt: HostRuntime) -> Result<(), Fail> {
-    let bytes = [7; 168];
-    assert_eq!(rt; length_of_log(rt.alloc(), 256, &bytes)?, Some(281));
+    for (block, length, long) in [
+        (256, 64, 133),
+        (256, 168, 281),
+        (4_096, 1_000, 1_069),
+        (1_048_576, 10_000, 10_069),
+    ] {
+        assert_eq!(rt; length_of_log(rt.alloc(), block, &bytes[..length])?, Some(long));
+    }
     Ok(())
 }
 
@@ -145,19 +141,13 @@ fn faults_of_one_byte(rt: HostRuntime) -> Result<(), Fail> {
 }
 
 #[test]
-fn other_faults(rt: HostRuntime) -> Result<(), Fail> {
-    let rows: [(&[u8], LogFault); 5] = [
+fn other_faults(rt: HostRuntime) {
+    let rows: [(&[u8], LogFault); 4] = [
         (&[0xd1, 7, 0], LogFault::Short { at: 0 }),
         (&[0xd1, 7, 0, 0, 0xff, 0xff, 0], LogFault::Padding { at: 6 }),
         (
             &[0xd1, 7, 0, 0, 0, 0, 0, 0, 0, 0, 0, 0],
             LogFault::KeyLength { at: 4 },
-        ),
-        (
-            &[
-                0xd1, 7, 0, 0, 0, 0, 0, 12, 0, 0, 0, 0, 0, 0, 0, 20, 0, 0, 0, 0, 0, 0, 0, 0,
-            ],
-            LogFault::Part { at: 4, part: 0 },
         ),
         (
             &[
@@ -170,17 +160,12 @@ fn other_faults(rt: HostRuntime) -> Result<(), Fail> {
     for (bytes, fault) in rows {
         assert_eq!(rt; read_log(rt.alloc(), bytes, 256, 10, 21).err(), Some(fault));
     }
-    assert_eq!(rt;
-        read_log(rt.alloc(), &SMALLEST, 256, 21, 30).err(),
-        Some(LogFault::Version { at: 4, version: 20 })
-    );
-    Ok(())
 }
 
 fn crosses<T: Send + Sync>() {}
 
-/// Threads may hand this on and share it.
+/// Threads may hand these on and share them.
 #[test]
-fn faults_cross_threads() {
+fn types_cross_threads() {
     crosses::<LogFault>();
 }

@@ -10,6 +10,7 @@ use Rattle.serde_json.specs.Written.{has_float}
 use Rattle.serde_json.proofs.OnLiterals.{serde_json_on_literals}
 use Rattle.serde_json.specs.Find.{get, as_number, as_u64, as_array}
 use Rattle.fb_bytes.specs.Bytes.{Bytes}
+use Rattle.fb_bytes.proofs.Results.{bind_ok}
 use Rattle.file_names.specs.declared.Name.{Name}
 use Rattle.file_names.specs.declared.Name.TheVariants as names
 use Rattle.manifests.specs.declared.manifest.Manifest.{Manifest}
@@ -21,10 +22,6 @@ use Rattle.manifests.specs.Grammar.{natural, texts, IsWhole, ManifestText, name_
 use Rattle.manifests.specs.Reading.{Fails, ◌>>=◌, found_or, number_in, texts_of, texts_in, format_or, fields_of, misplaced, spans, agrees, checked_at, checked, value_of, manifest_read, ok_side}
 use Rattle.manifests.specs.Laws.{ReadIsManifest, ManifestIsRead}
 use Rattle.manifests.proofs.Lists.{misplaced_none, misplaced_again, texts_found, texts_again, texts_float, texts_depth}
-
-pub bind_ok : {A B : Type 0} (r : Result A ManifestFault) (f : A → Result B ManifestFault) (y : B) → (r >>= f) ≡ Ok y → (x : A) × (r ≡ Ok x) × (f x ≡ Ok y)
-bind_ok (Ok x) f y e = (x, refl, e)
-bind_ok (Err d) f y e = absurd cc
 
 pub found_or_ok : {A : Type 0} (fault : ManifestFault) (o : Option A) (x : A) → found_or fault o ≡ Ok x → o ≡ Some x
 found_or_ok fault (Some y) x e = cc

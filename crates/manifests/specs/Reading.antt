@@ -1,10 +1,12 @@
 -- Reading a manifest, with the first fault that is met.
-use Rattle.std.specs.Prelude.{◌≡◌, ℕ, ◌+◌, Bool, false, List, [], ◌∷◌, Option, Some, None, option_and_then, Result, Ok, Err, ◌&&◌, ◌==◌, ◌⊎◌, if◌then◌else◌, codes}
+use Rattle.std.specs.Prelude.{ℕ, ◌+◌, Bool, false, List, [], ◌∷◌, Option, Some, None, option_and_then, Result, Ok, Err, ◌&&◌, ◌==◌, if◌then◌else◌, codes}
 use Rattle.std.specs.Str.{is_utf8}
 use Rattle.serde_json.specs.Data.{Data, Items, item, no_items}
 use Rattle.serde_json.specs.Read as json
 use Rattle.serde_json.specs.Find.{get, as_number, as_u64, as_array, as_str}
 use Rattle.fb_bytes.specs.Bytes.{Bytes}
+pub use Rattle.fb_bytes.specs.Results.{◌>>=◌, found_or, ok_side}
+use Rattle.fb_bytes.specs.Results.{FailsBut}
 use Rattle.file_names.specs.declared.Name.{Name}
 use Rattle.file_names.specs.declared.Name.TheVariants as names
 use Rattle.manifests.specs.declared.manifest.Manifest.{Manifest}
@@ -13,18 +15,9 @@ use Rattle.manifests.specs.declared.fault.ManifestFault.{ManifestFault}
 use Rattle.manifests.specs.declared.fault.ManifestFault.TheVariants.{Json, Field, Order, Versions, NoMemory}
 use Rattle.manifests.specs.Files.{fits, span_of}
 
--- a failed call answers want of memory, or the fault that reading meets
+-- a failed call answers want of memory, or the fault that the reading meets
 abbrev pub Fails : {A : Type 0} → ManifestFault → Result A ManifestFault → Type 0
-Fails fault reading = (fault ≡ NoMemory) ⊎ (reading ≡ Err fault)
-
-infixl 10 ◌>>=◌
-abbrev pub ◌>>=◌ : {A B : Type 0} → Result A ManifestFault → (A → Result B ManifestFault) → Result B ManifestFault
-(Ok x) >>= f = f x
-(Err fault) >>= f = Err fault
-
-abbrev pub found_or : {A : Type 0} → ManifestFault → Option A → Result A ManifestFault
-found_or fault None = Err fault
-found_or fault (Some x) = Ok x
+Fails fault reading = FailsBut NoMemory fault reading
 
 -- a field that is a number of 64 bits
 unfoldable pub number_in : Bytes → Data → Option ℕ
@@ -94,10 +87,6 @@ manifest_read name bytes = do
   value ← found_or Json (value_of bytes)
   manifest ← fields_of value
   checked name manifest
-
-abbrev pub ok_side : {A : Type 0} → Result A ManifestFault → Option A
-ok_side (Ok x) = Some x
-ok_side (Err fault) = None
 
 -- the manifest of a name, if the bytes are one
 abbrev pub manifest_of : Name → Bytes → Option Manifest

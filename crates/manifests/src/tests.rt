@@ -38,94 +38,53 @@ fn files_in_byte_order(rt: HostRuntime) -> Result<(), Fail> {
     Ok(())
 }
 
+/// Of a field that stands twice the last one counts.
 #[test]
-fn faults(rt: HostRuntime) -> Result<(), Fail> {
-    let rows = [
-        ("{", ManifestFault::Json),
+fn faults(rt: HostRuntime) {
+    let rows: [(&[u8], ManifestFault); 9] = [
+        (b"\xff", ManifestFault::Json),
+        (b"{", ManifestFault::Json),
         (
-            "{}",
+            b"{}",
             ManifestFault::Field {
                 name: Field::BeginVersion,
             },
         ),
         (
-            r#"{"beginVersion":20,"endVersion":20.0}"#,
+            br#"{"beginVersion":20,"endVersion":20.0}"#,
             ManifestFault::Field {
                 name: Field::EndVersion,
             },
         ),
         (
-            r#"{"beginVersion":20,"endVersion":20,"files":[1]}"#,
+            br#"{"beginVersion":20,"endVersion":20,"files":[1]}"#,
             ManifestFault::Field { name: Field::Files },
         ),
         (
-            r#"{"beginVersion":20,"endVersion":20,"files":[],"format":2}"#,
+            br#"{"beginVersion":20,"endVersion":20,"files":[],"format":1,"format":2}"#,
             ManifestFault::Field {
                 name: Field::Format,
             },
         ),
         (
-            r#"{"beginVersion":20,"endVersion":20,"files":["a"],"format":1}"#,
+            br#"{"beginVersion":20,"endVersion":20,"files":[],"format":1}"#,
             ManifestFault::Field {
                 name: Field::TotalBytes,
             },
         ),
         (
-            r#"{"beginVersion":20,"endVersion":20,"files":["kvranges/snapshot.20/0/range,20,1,256","logs/0/log,10,21,2,256"],"format":1,"totalBytes":23}"#,
-            ManifestFault::Order { at: 1 },
+            br#"{"beginVersion":20,"endVersion":20,"files":["a"],"format":1,"totalBytes":23}"#,
+            ManifestFault::Order { at: 0 },
         ),
         (
-            r#"{"beginVersion":20,"endVersion":20,"files":["kvranges/snapshot.20/0/range,20,1,256","kvranges/snapshot.20/0/range,20,1,256"],"format":1,"totalBytes":23}"#,
-            ManifestFault::Order { at: 1 },
-        ),
-        (
-            r#"{"beginVersion":20,"endVersion":20,"files":[],"format":1,"totalBytes":23}"#,
-            ManifestFault::Versions,
-        ),
-        (
-            r#"{"beginVersion":20,"endVersion":20,"files":["kvranges/snapshot.20/0/range,20,1,256"],"format":1,"totalBytes":24}"#,
+            br#"{"beginVersion":20,"endVersion":20,"files":[],"format":2,"format":1,"totalBytes":23}"#,
             ManifestFault::Versions,
         ),
     ];
     let name = parse(b"snapshots/snapshot,20,20,23,3");
     for (text, fault) in rows {
-        assert_eq!(rt;
-            read(rt.alloc(), text.as_bytes(), &name).err(),
-            Some(fault),
-            "{text}"
-        );
+        assert_eq!(rt; read(rt.alloc(), text, &name).err(), Some(fault));
     }
-    assert_eq!(rt;
-        read(rt.alloc(), b"\xff", &name).err(),
-        Some(ManifestFault::Json)
-    );
-    Ok(())
-}
-
-/// Of a field that stands twice the last one counts.
-#[test]
-fn field_that_stands_twice(rt: HostRuntime) -> Result<(), Fail> {
-    let rows = [
-        (
-            r#"{"format":2,"beginVersion":20,"endVersion":20,"files":["kvranges/snapshot.20/0/range,20,1,256"],"format":1,"totalBytes":23}"#,
-            None,
-        ),
-        (
-            r#"{"format":1,"beginVersion":20,"endVersion":20,"files":["kvranges/snapshot.20/0/range,20,1,256"],"format":2,"totalBytes":23}"#,
-            Some(ManifestFault::Field {
-                name: Field::Format,
-            }),
-        ),
-    ];
-    let name = parse(b"snapshots/snapshot,20,20,23,3");
-    for (text, fault) in rows {
-        assert_eq!(rt;
-            read(rt.alloc(), text.as_bytes(), &name).err(),
-            fault,
-            "{text}"
-        );
-    }
-    Ok(())
 }
 
 #[test]

@@ -1,70 +1,37 @@
 -- A block that is read is in the grammar, and one that is in the grammar is read.
-use Rattle.std.proofs.Common.{◌≡◌, ℕ, zero, suc, ◌+◌, ◌-◌, ◌^◌, ◌<◌, ◌≤◌, Bool, true, false, not, cond, eqb, ltb, List, [], ◌∷◌, ◌++◌, length, Option, Some, None, Ok, Err, refl, sym, ap, subst, ◌∙◌, append_assoc, arith, lit≤}
-use Rattle.std.specs.Prelude.{position}
-use Rattle.std.specs.List.{AllByRecursion, prefix_len}
-use Rattle.std.proofs.lemmas.Bool.{eqb-true, eq-eqb, ne_eqb, ltb-false, le-ltb, cond-true, cond-false}
+use Rattle.std.proofs.Common.{◌≡◌, ℕ, zero, suc, ◌+◌, ◌-◌, ◌^◌, ◌<◌, Bool, true, false, cond, eqb, List, [], ◌∷◌, ◌++◌, length, Option, Some, None, Ok, Err, refl, sym, ap, subst, ◌∙◌, append_assoc, arith, lit≤}
+use Rattle.std.proofs.lemmas.Bool.{eqb-true, eq-eqb, ne_eqb}
 use Rattle.std.proofs.lemmas.List.{length-append}
 use Rattle.fb_bytes.specs.Bytes.{Bytes, IsBytes}
 use Rattle.fb_bytes.specs.declared.Pair.{Pair}
-use Rattle.block_frame.specs.Text.{header, string, header_at, is_over, IsPadding}
+use Rattle.block_frame.specs.Text.{header, string, header_at, IsPadding, unpadded_at}
 use Rattle.block_frame.proofs.Strings.{header_found, header_again}
 use Rattle.range_files.specs.declared.block.Block.{Block}
 use Rattle.range_files.specs.declared.fault.BlockFault.{BlockFault}
 use Rattle.range_files.specs.declared.fault.BlockFault.TheVariants.{Short, Format, Padding, Order}
 use Rattle.range_files.specs.Grammar.{pairs_text, end_text, block_text, LengthsFit, IsOrdered, StartsAt, IsBlockAt}
 use Rattle.range_files.specs.Reading.{◌>>=◌, found_or, unless, string_or, Items, items_at, place_after, padding_fault, fault_at, disorder, structure_of, block_from, block_of}
-use Rattle.range_files.proofs.Steps.{bind_ok, found_or_ok, unless_ok, test_ok, ok_is, string_or_found, string_or_again}
+use Rattle.fb_bytes.proofs.Results.{bind_ok}
+use Rattle.block_frame.proofs.Steps.{found_or_ok, test_ok, ok_is}
+use Rattle.block_frame.proofs.Padding as padding
+use Rattle.block_frame.proofs.Padding.{padding_over}
+use Rattle.range_files.proofs.Steps.{unless_ok, string_or_found, string_or_again}
 use Rattle.range_files.proofs.Items.{HasKey, items_found, items_again, string-length}
 use Rattle.range_files.proofs.Order.{disorder_none, disorder_starts, disorder_again}
 
 -- ---- padding
 
-full_prefix : (q : ℕ → Bool) (xs : Bytes) → length xs ≤ prefix_len q xs → AllByRecursion (λ x. q x ≡ true) xs
-full_prefix q [] h = tt
-full_prefix q (x ∷ xs) h = go (q x) refl h (full_prefix q xs)
-  where
-    go : (b : Bool) → q x ≡ b → length (x ∷ xs) ≤ cond b (1 + prefix_len q xs) 0 → (length xs ≤ prefix_len q xs → AllByRecursion (λ y. q y ≡ true) xs) → (q x ≡ true) × AllByRecursion (λ y. q y ≡ true) xs
-    go true e g more = (e, more (omega arith))
-    go false e g more = absurd (omega arith)
-
-padding_each : (xs : Bytes) → AllByRecursion (λ x. not (not (eqb x 255)) ≡ true) xs → IsPadding xs
-padding_each [] h = tt
-padding_each (x ∷ xs) h = (eqb-true x 255 (twice (eqb x 255) h.0), padding_each xs h.1)
-  where
-    twice : (b : Bool) → not (not b) ≡ true → b ≡ true
-    twice true e = refl
-    twice false e = absurd cc
-
-prefix_padding : (xs : Bytes) → IsPadding xs → prefix_len (λ x. not (not (eqb x 255))) xs ≡ length xs
-prefix_padding [] h = refl
-prefix_padding (x ∷ xs) h =
-    let same : not (not (eqb x 255)) ≡ true = ap (λ (b : Bool). not (not b)) (eq-eqb x 255 h.0) in
-    cond-true (not (not (eqb x 255))) (1 + prefix_len (λ y. not (not (eqb y 255))) xs) 0 same ∙ omega (arith, prefix_padding xs h.1)
-
 no_place : (at : ℕ) (o : Option ℕ) → place_after at o ≡ None → o ≡ None
 no_place at None e = refl
 no_place at (Some n) e = absurd cc
 
-cond_none : (b : Bool) (n : ℕ) → cond b (Some n) None ≡ None → b ≡ false
-cond_none true n e = absurd cc
-cond_none false n e = refl
-
 pub padding_found : (t : ℕ) (rest : Bytes) → padding_fault t rest ≡ None → IsPadding rest
 unfolding padding_fault
-padding_found t rest e =
-    let n = prefix_len (λ x. not (not (eqb x 255))) rest in
-    let none = cond_none (ltb n (length rest)) n (no_place (t - length rest) (position (λ x. not (eqb x 255)) rest) e) in
-    padding_each rest (full_prefix (λ x. not (not (eqb x 255))) rest (ltb-false _ _ none))
+padding_found t rest e = padding.padding_found rest (no_place (t - length rest) (unpadded_at rest) e)
 
 pub padding_again : (t : ℕ) (rest : Bytes) → IsPadding rest → padding_fault t rest ≡ None
 unfolding padding_fault
-padding_again t rest h =
-    let n = prefix_len (λ x. not (not (eqb x 255))) rest in
-    ap (place_after (t - length rest)) (cond-false (ltb n (length rest)) (Some n) None (le-ltb _ _ (omega (arith, prefix_padding rest h))))
-
-pub padding_over : (rest : Bytes) → IsPadding rest → is_over rest ≡ true
-padding_over [] h = refl
-padding_over (x ∷ xs) h = eq-eqb x 255 h.0
+padding_again t rest h = ap (place_after (t - length rest)) (padding.padding_again rest h)
 
 -- ---- what stands in a block
 

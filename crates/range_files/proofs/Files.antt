@@ -1,8 +1,8 @@
 -- A file that is read is in the grammar, and one that is in the grammar is read.
-use Rattle.std.proofs.Common.{◌≡◌, ℕ, zero, suc, ◌+◌, ◌^◌, ◌<◌, ◌≤◌, Bool, true, false, cond, ◌&&◌, leb, List, [], ◌∷◌, ◌++◌, length, take, drop, Option, Some, None, Result, Ok, Err, min, inl, inr, refl, sym, ap, subst, ◌∙◌, append_assoc, arith, lit<}
+use Rattle.std.proofs.Common.{◌≡◌, ℕ, zero, suc, ◌+◌, ◌^◌, ◌<◌, ◌≤◌, Bool, true, false, cond, ◌&&◌, leb, List, [], ◌∷◌, ◌++◌, length, take, drop, Option, Some, None, Result, Ok, Err, inl, inr, refl, sym, ap, subst, ◌∙◌, append_assoc, arith, lit<}
 use Rattle.std.specs.Prelude.{IsSome, IfOk, IfErr, MatchResult, MatchOption}
 use Rattle.std.specs.Option.{option_to_list}
-use Rattle.std.proofs.lemmas.Bool.{cases_lt, and_parts, and_from, leb-true, leb-false, le-leb, lt-leb}
+use Rattle.std.proofs.lemmas.Bool.{and_parts, and_from, leb-true, leb-false, le-leb, lt-leb}
 use Rattle.std.proofs.lemmas.List.{nil_from_length, take_all, take_at, drop_at, take-append-drop, length-append, length-take, length-drop}
 use Rattle.fb_bytes.specs.Bytes.{Bytes, IsBytes, is_same}
 use Rattle.fb_bytes.specs.Pairs.{AreRising}
@@ -17,7 +17,8 @@ use Rattle.range_files.specs.Reading.{Fails, ◌>>=◌, block_of, last_of, all_b
 use Rattle.range_files.specs.Front.{before_of, all_pairs, first_begin, Grows}
 use Rattle.range_files.specs.declared.file.Front.{Front}
 use Rattle.range_files.specs.Laws.{ReadIsFile, FileIsRead, OneBody}
-use Rattle.range_files.proofs.Steps.{bind_ok, test_ok, ok_is}
+use Rattle.fb_bytes.proofs.Results.{bind_ok}
+use Rattle.block_frame.proofs.Steps.{test_ok, ok_is}
 use Rattle.fb_bytes.proofs.Order.{same_eq, same_itself}
 use Rattle.range_files.proofs.Order.{ordered_rising, rising_joined}
 use Rattle.range_files.proofs.Blocks.{block_found, block_again, block_text-append}
@@ -332,16 +333,6 @@ popped [] left None n B Q e len cases = (nil_from_length left (omega (arith, ap 
 popped (pair ∷ pairs) left None n B Q e len cases = absurd (omega (arith, cases.0))
 
 -- ---- for the loop's goals
-
-pub piece_is : (n mid : ℕ) (bytes piece : Bytes) → mid ≡ min (length bytes) n → piece ≡ take mid bytes → piece ≡ take n bytes
-piece_is n mid bytes piece m e =
-    e ∙ ap (λ (k : ℕ). take k bytes) m ∙ elim (cases_lt (length bytes) n) [
-      | inl less ↦ (let k : min (length bytes) n ≡ length bytes = omega arith in ap (λ (i : ℕ). take i bytes) k ∙ take_all (length bytes) bytes (omega arith) ∙ sym (take_all n bytes (omega arith)))
-      | inr more ↦ (let k : min (length bytes) n ≡ n = omega arith in ap (λ (i : ℕ). take i bytes) k)
-    ]
-
-pub rest_is : (n mid : ℕ) (bytes rest : Bytes) → n < length bytes → mid ≡ min (length bytes) n → rest ≡ drop mid bytes → rest ≡ drop n bytes
-rest_is n mid bytes rest long m e = let k : mid ≡ n = omega arith in e ∙ ap (λ (i : ℕ). drop i bytes) k
 
 pub finish_rising : (size at : ℕ) (bytes begin : Bytes) (pairs : List Pair) (end : Option Bytes) → IsBytes bytes → read size bytes ≡ last_body at begin pairs end → IsSome end → AreRising pairs
 finish_rising size at bytes begin pairs None fits e some = absurd cc

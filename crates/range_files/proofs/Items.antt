@@ -8,7 +8,9 @@ use Rattle.block_frame.proofs.Strings.{IsString, string_not_over, not_over_short
 use Rattle.range_files.specs.declared.fault.BlockFault.{BlockFault}
 use Rattle.range_files.specs.Grammar.{pair_text, pairs_text, end_text, padding_like, LengthsFit}
 use Rattle.range_files.specs.Reading.{◌>>=◌, Items, with_pair, string_or, items_at}
-use Rattle.range_files.proofs.Steps.{bind_ok, ok_is, string_or_size, string_or_found, string_or_again}
+use Rattle.fb_bytes.proofs.Results.{bind_ok}
+use Rattle.block_frame.proofs.Steps.{ok_is}
+use Rattle.range_files.proofs.Steps.{string_or_size, string_or_found, string_or_again}
 
 abbrev pub pair_of : Bytes → Bytes → Pair
 pair_of key value = record { key = key; value = value }

@@ -1,5 +1,5 @@
 -- What is written is in the grammar.
-use Rattle.std.proofs.Common.{◌≡◌, ℕ, zero, suc, ◌+◌, ◌-◌, ◌^◌, ◌<◌, ◌≤◌, Bool, true, false, leb, List, [], ◌∷◌, ◌++◌, length, replicate, Option, Some, None, refl, sym, ap, subst, ◌∙◌, append_assoc, arith, rules}
+use Rattle.std.proofs.Common.{◌≡◌, ℕ, ◌+◌, ◌-◌, ◌^◌, ◌<◌, ◌≤◌, Bool, true, false, leb, List, [], ◌∷◌, ◌++◌, length, replicate, Option, Some, None, refl, sym, ap, subst, ◌∙◌, append_assoc, arith, rules}
 use Rattle.std.specs.List.{AllByRecursion}
 use Rattle.std.proofs.lemmas.Bool.{ne_eqb, le-leb, lt-leb, leb-true, leb-false}
 use Rattle.std.proofs.lemmas.List.{append-nil, length-append, length-replicate}
@@ -7,9 +7,10 @@ use Rattle.fb_bytes.specs.Bytes.{Bytes, is_below}
 use Rattle.fb_bytes.specs.Blocks.{is_block}
 use Rattle.fb_bytes.specs.Pairs.{AreRising}
 use Rattle.fb_bytes.specs.declared.Pair.{Pair}
-use Rattle.block_frame.specs.Text.{header, string, IsPadding}
+use Rattle.block_frame.specs.Text.{header, string}
 use Rattle.block_frame.specs.Profiles.{key_limit_of, limit_of, IsRoomy}
 use Rattle.block_frame.specs.Frames.{Frames, no_frames, framed, begun, padded, text}
+use Rattle.block_frame.proofs.Padding.{padding_is}
 use Rattle.range_files.specs.Grammar.{format, pair_text, pairs_text, block_text, padding_like, LengthsFit, RiseFrom, end_key, IsOrdered, IsBlock, RangeFile, LastBlock, EarlierBlock}
 use Rattle.range_files.specs.Writing.{repeat_of, with_pairs, range_text, PairFits, IsWritable}
 use Rattle.range_files.specs.Laws.{WrittenIsFile, WrittenIsRead}
@@ -90,10 +91,6 @@ lengths_fit size limit end [] (Some e) k k' v fits l l' = l
 lengths_fit size limit end (pair ∷ pairs) last k k' v fits l l' = (omega (arith, fits.0.key), omega (arith, fits.0.value), lengths_fit size padding_like end pairs last k' k' v fits.1 l' l')
 
 -- ---- blocks
-
-padding_is : (n : ℕ) → IsPadding (replicate n 255)
-padding_is zero = tt
-padding_is (suc n) = (refl, padding_is n)
 
 -- the present block, up to its pairs
 abbrev pub present_text : Bytes → List Pair → Bytes

@@ -1,26 +1,19 @@
 -- Reading a range file from left to right, with the first fault that is met.
-use Rattle.std.specs.Prelude.{◌≡◌, ℕ, zero, suc, ◌+◌, ◌-◌, Bool, true, false, not, List, [], ◌∷◌, ◌++◌, length, take, drop, Option, Some, None, Result, Ok, Err, nat_le, ◌==◌, ◌&&◌, if◌then◌else◌, position, ◌⊎◌}
+use Rattle.std.specs.Prelude.{ℕ, zero, suc, ◌+◌, ◌-◌, Bool, true, false, not, List, [], ◌∷◌, ◌++◌, length, take, drop, Option, Some, None, Result, Ok, Err, nat_le, ◌==◌, ◌&&◌, if◌then◌else◌}
 use Rattle.fb_bytes.specs.Bytes.{Bytes, is_below, is_same}
+pub use Rattle.fb_bytes.specs.Results.{◌>>=◌, found_or, ok_side}
+use Rattle.fb_bytes.specs.Results.{FailsBut}
 use Rattle.fb_bytes.specs.declared.Pair.{Pair}
-use Rattle.block_frame.specs.Text.{header_at, string_at, is_over}
+use Rattle.block_frame.specs.Text.{header_at, string_at, is_over, unpadded_at}
 use Rattle.range_files.specs.declared.block.Block.{Block}
 use Rattle.range_files.specs.declared.file.RangeBody.{RangeBody}
 use Rattle.range_files.specs.declared.fault.BlockFault.{BlockFault}
 use Rattle.range_files.specs.declared.fault.BlockFault.TheVariants.{Format, Short, Padding, Order, Join, NoMemory}
 use Rattle.range_files.specs.Grammar.{format}
 
--- a failed call answers want of memory, or the fault that reading meets
+-- a failed call answers want of memory, or the fault that the reading meets
 abbrev pub Fails : {A : Type 0} → BlockFault → Result A BlockFault → Type 0
-Fails fault reading = (fault ≡ NoMemory) ⊎ (reading ≡ Err fault)
-
-infixl 10 ◌>>=◌
-abbrev pub ◌>>=◌ : {A B : Type 0} → Result A BlockFault → (A → Result B BlockFault) → Result B BlockFault
-(Ok x) >>= f = f x
-(Err fault) >>= f = Err fault
-
-abbrev pub found_or : {A : Type 0} → BlockFault → Option A → Result A BlockFault
-found_or fault None = Err fault
-found_or fault (Some x) = Ok x
+Fails fault reading = FailsBut NoMemory fault reading
 
 -- goes on where there is no fault
 abbrev pub unless : {A : Type 0} → Option BlockFault → Result A BlockFault → Result A BlockFault
@@ -58,7 +51,7 @@ place_after at None = None
 place_after at (Some place) = Some (at + place)
 
 unfoldable pub padding_fault : ℕ → Bytes → Option ℕ
-padding_fault t rest = place_after (t - length rest) (position (λ byte. not (byte == 255)) rest)
+padding_fault t rest = place_after (t - length rest) (unpadded_at rest)
 
 -- the place of the first key that isn't past the one before it; the next key's length stands at the place at
 abbrev pub unrisen : Bytes → ℕ → List Pair → Option Bytes → Option ℕ
@@ -159,10 +152,6 @@ blocks_from (suc fuel) size index base before bytes =
 -- what a reader answers: the file's content, or the first fault
 unfoldable pub read : ℕ → Bytes → Result RangeBody BlockFault
 read size bytes = blocks_from (length bytes + 1) size 0 0 None bytes
-
-abbrev pub ok_side : {A : Type 0} → Result A BlockFault → Option A
-ok_side (Ok x) = Some x
-ok_side (Err fault) = None
 
 -- the content of a range file, if the bytes are one
 abbrev pub range_file_of : ℕ → Bytes → Option RangeBody

@@ -1,6 +1,6 @@
 //! One block of a range file.
 
-ghost use Rattle.std.specs.Prelude.{◌≡◌, ℕ, ◌+◌, ◌^◌, ◌<◌, ◌≤◌, ◌++◌, Some, None, Ok, Option, List, length, IfOk, IfErr, MatchResult, ◌==◌, not, position};
+ghost use Rattle.std.specs.Prelude.{◌≡◌, ℕ, ◌+◌, ◌^◌, ◌<◌, ◌≤◌, ◌++◌, Some, None, Ok, Option, List, length, IfOk, IfErr, MatchResult};
 ghost use Rattle.fb_bytes.specs.Bytes.{Bytes};
 ghost use Rattle.fb_bytes.specs.Pairs.{AreRising};
 ghost use Rattle.fb_bytes.specs.declared.Pair.{Pair};
@@ -9,7 +9,7 @@ ghost use Rattle.range_files.specs.Reading as reading;
 ghost use Rattle.range_files.specs.Seen.{items_from};
 
 use crate::fault::BlockFault;
-use block_frame::{header_at, is_over, string_at};
+use block_frame::{header_at, is_over, string_at, unpadded_at};
 use fb_bytes::{Blob, Pair, Pairs, is_below, is_same};
 use std::alloc::Global;
 
@@ -142,14 +142,8 @@ fn padding_fault(rest: &[u8], end: u64) -> Option<u64>
     requires { length rest.now ≤ end }
     ensures { result ≡ reading.padding_fault end rest.now }
 {
-    let place = first_other(rest)?;
+    let place = unpadded_at(rest)?;
     Some(end - rest.len() as u64 + place as u64)
-}
-
-fn first_other(rest: &[u8]) -> Option<usize>
-    ensures { result ≡ position (λ byte. not (byte == 255)) rest.now }
-{
-    rest.iter().position(|byte| !(*byte == 0xff))
 }
 
 /// The place of the first key that is out of order.

@@ -1,6 +1,8 @@
 use Rattle.std.proofs.Common.{arith, sym, ◌∙◌}
 use Rattle.std.proofs.lemmas.Result.{err_from_is_err_and}
-use Rattle.log_files.proofs.Records.{fails_on, rows_begin, rows_end, rows_more, rows_no_key, rows_no_value}
+use Rattle.log_files.specs.declared.fault.LogFault.TheVariants.{NoMemory}
+use Rattle.block_frame.proofs.Steps.{fails_on}
+use Rattle.log_files.proofs.Records.{rows_begin, rows_end, rows_more, rows_no_key, rows_no_value}
 use Rattle.log_files.proofs.record.records_at.Goals as goal
 
 pub rows-init : goal.rows-init
@@ -9,12 +11,12 @@ rows-init c = record { within = omega arith; so_far = rw c.new-records.ensures.i
 pub returns-in_err-key-clause-err : goal.returns-in_err-key-clause-err
 returns-in_err-key-clause-err c =
     let p = err_from_is_err_and c.from_residual.result c.from_residual.ensures.1 in
-    rw (p.1, p.2) (fails_on c.in_err-key.field-0.0 _ _ (λ e. rows_no_key c.rows.records.items c.args.end c.rows.rest.now c.in_err-key.field-0.0 _ c.rows.invariant.so_far (sym c.is_over.ensures ∙ c.rows-test.true) e) c.in_err-key.ensures.err)
+    rw (p.1, p.2) (fails_on NoMemory c.in_err-key.field-0.0 _ _ (λ e. rows_no_key c.rows.records.items c.args.end c.rows.rest.now c.in_err-key.field-0.0 _ c.rows.invariant.so_far (sym c.is_over.ensures ∙ c.rows-test.true) e) c.in_err-key.ensures.err)
 
 pub returns-in_err-value-clause-err : goal.returns-in_err-value-clause-err
 returns-in_err-value-clause-err c =
     let p = err_from_is_err_and c.from_residual-in_err-value.result c.from_residual-in_err-value.ensures.1 in
-    rw (p.1, p.2) (fails_on c.in_err-value.field-0.0 _ _ (λ e. rows_no_value c.rows.records.items c.args.end c.rows.rest.now c.in_ok-key.key c.in_ok-key.after.now c.in_err-value.field-0.0 _ c.rows.invariant.so_far (sym c.is_over.ensures ∙ c.rows-test.true) c.in_ok-key.ensures.ok e) c.in_err-value.ensures.err)
+    rw (p.1, p.2) (fails_on NoMemory c.in_err-value.field-0.0 _ _ (λ e. rows_no_value c.rows.records.items c.args.end c.rows.rest.now c.in_ok-key.key c.in_ok-key.after.now c.in_err-value.field-0.0 _ c.rows.invariant.so_far (sym c.is_over.ensures ∙ c.rows-test.true) c.in_ok-key.ensures.ok e) c.in_err-value.ensures.err)
 
 pub rows-preserved : goal.rows-preserved
 rows-preserved c = record {

@@ -1,6 +1,8 @@
 use Rattle.std.proofs.Common.{arith, sym, ◌∙◌}
 use Rattle.std.proofs.lemmas.Result.{err_from_is_err_and}
-use Rattle.range_files.proofs.Steps.{fails_on, string_or_size}
+use Rattle.range_files.specs.declared.fault.BlockFault.TheVariants.{NoMemory}
+use Rattle.block_frame.proofs.Steps.{fails_on}
+use Rattle.range_files.proofs.Steps.{string_or_size}
 use Rattle.range_files.proofs.Items.{items_begin, items_alone, items_last, items_more, items_no_key, items_no_value}
 use Rattle.range_files.proofs.block.items_at.Goals as goal
 
@@ -10,7 +12,7 @@ loop-pairs-init c = record { within = omega arith; so_far = rw c.new-pairs.ensur
 pub returns-in_err-key-clause-err : goal.returns-in_err-key-clause-err
 returns-in_err-key-clause-err c =
     let p = err_from_is_err_and c.from_residual.result c.from_residual.ensures.1 in
-    rw (p.1, p.2) (fails_on c.in_err-key.field-0.0 _ _ (λ e. items_no_key c.loop-pairs.pairs.items c.args.end c.loop-pairs.rest.now c.in_err-key.field-0.0 _ c.loop-pairs.invariant.so_far e) c.in_err-key.ensures.err)
+    rw (p.1, p.2) (fails_on NoMemory c.in_err-key.field-0.0 _ _ (λ e. items_no_key c.loop-pairs.pairs.items c.args.end c.loop-pairs.rest.now c.in_err-key.field-0.0 _ c.loop-pairs.invariant.so_far e) c.in_err-key.ensures.err)
 
 pub returns-then-is_over-clause-ok : goal.returns-then-is_over-clause-ok
 returns-then-is_over-clause-ok c = items_alone c.loop-pairs.pairs.items c.args.end c.loop-pairs.rest.now c.in_ok-key.key c.in_ok-key.after.now _ c.loop-pairs.invariant.so_far c.in_ok-key.ensures.ok (sym c.is_over.ensures ∙ c.if-is_over.true)
@@ -21,7 +23,7 @@ string_or-requires-in-loop-pairs c = let a = string_or_size c.args.end c.loop-pa
 pub returns-in_err-value-clause-err : goal.returns-in_err-value-clause-err
 returns-in_err-value-clause-err c =
     let p = err_from_is_err_and c.from_residual-in_err-value.result c.from_residual-in_err-value.ensures.1 in
-    rw (p.1, p.2) (fails_on c.in_err-value.field-0.0 _ _ (λ e. items_no_value c.loop-pairs.pairs.items c.args.end c.loop-pairs.rest.now c.in_ok-key.key c.in_ok-key.after.now c.in_err-value.field-0.0 _ c.loop-pairs.invariant.so_far c.in_ok-key.ensures.ok (sym c.is_over.ensures ∙ c.if-is_over.false) e) c.in_err-value.ensures.err)
+    rw (p.1, p.2) (fails_on NoMemory c.in_err-value.field-0.0 _ _ (λ e. items_no_value c.loop-pairs.pairs.items c.args.end c.loop-pairs.rest.now c.in_ok-key.key c.in_ok-key.after.now c.in_err-value.field-0.0 _ c.loop-pairs.invariant.so_far c.in_ok-key.ensures.ok (sym c.is_over.ensures ∙ c.if-is_over.false) e) c.in_err-value.ensures.err)
 
 pub returns-then-is_over-2-clause-ok : goal.returns-then-is_over-2-clause-ok
 returns-then-is_over-2-clause-ok c =
