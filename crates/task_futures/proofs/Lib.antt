@@ -1,4 +1,3 @@
-pub mod Mapped
 pub mod Falling
 pub mod Linking
 pub mod Keeping

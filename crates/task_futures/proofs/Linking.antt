@@ -5,7 +5,7 @@ use Rattle.std.specs.Prelude.{OnOk, IfOk}
 use Rattle.std.proofs.lemmas.List.{get_or_default}
 use Rattle.task_kinds.specs.Tasks.{SeenTask}
 use Rattle.task_futures.specs.Futures.{Part, SeenFuture, is_made, blocks_of, changed, place_of, is_open, is_some_block, left, join_blocks, links_of, passed_on, becomes_set, newly_set, settled, settle}
-use Rattle.task_futures.proofs.Mapped.{drop-all}
+use Rattle.fb_bytes.proofs.Mapped.{drop-all}
 
 -- what a future was linked with so far, and what is left of the parts
 pub record Links (old : SeenFuture) (join : ℕ) (parts : List ℕ) (fs : List SeenFuture) (now : SeenFuture) (block : ℕ) (rest : List ℕ) : Type 0 where

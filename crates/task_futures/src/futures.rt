@@ -2,7 +2,7 @@ ghost use Rattle.std.specs.Prelude.{◌≡◌, ◌≤◌, ◌^◌, List, true, I
 ghost use Rattle.task_futures.specs.Futures.{SeenFuture, is_made, are_made, is_open, next_number, next_block_of, with_fresh, with_block, with_callback, joined, unblocked, due_of, without_newest};
 
 use crate::Tasks;
-use std::alloc::{AllocError, Global};
+use std::alloc::AllocError;
 use task_kinds::Task;
 
 /// Futures by their numbers, each with its open blocks and the tasks to add once it is set. It is
@@ -42,7 +42,7 @@ pub trait Futures {
 
     /// The tasks of each future that the unblocking of this block would set, in the order of the
     /// futures' numbers; no task where the block isn't open.
-    fn due(&self, alloc: Global, future: u64, block: u64) -> Result<Tasks, AllocError>
+    fn due(&self, future: u64, block: u64) -> Result<Tasks, AllocError>
         ensures { IfOk result (λ tasks. tasks ≡ due_of future block (futures self.now)) };
 
     /// Takes a block off, where it is open, and those of each join that this sets a part of. It

@@ -145,9 +145,9 @@ impl Futures for ListFutures {
         Ok(number)
     }
 
-    fn due(&self, alloc: Global, future: u64, block: u64) -> Result<Tasks, AllocError> {
+    fn due(&self, future: u64, block: u64) -> Result<Tasks, AllocError> {
         due_in(
-            alloc,
+            self.alloc,
             &self.futures,
             Part {
                 join: future,

@@ -71,14 +71,13 @@ impl Tasks {
         Ok(())
     }
 
-    /// Adds copies of tasks at the end.
+    /// Adds copies of tasks at the end. Without memory nothing changes.
     pub fn extend_from(&mut self, tasks: &[Task]) -> Result<(), AllocError>
-        ensures { OnOk result (self.new ≡ self.old ++ tasks.now) }
+        ensures ok { OnOk result (self.new ≡ self.old ++ tasks.now) }
+        ensures err { OnErr result (self.new ≡ self.old) }
     {
-        for task in tasks {
-            let task = task.copy()?;
-            self.push(task)?;
-        }
+        let mut more = copies(*self.tasks.allocator(), tasks)?;
+        self.tasks.append(&mut more)?;
         Ok(())
     }
 
@@ -86,8 +85,18 @@ impl Tasks {
     pub fn copy(&self) -> Result<Self, AllocError>
         ensures { IfOk result (λ tasks. tasks ≡ self.now) }
     {
-        let mut copy = Tasks::new(*self.tasks.allocator());
-        copy.extend_from(self.as_slice())?;
-        Ok(copy)
+        let tasks = copies(*self.tasks.allocator(), &self.tasks)?;
+        Ok(Tasks { tasks })
     }
+}
+
+fn copies(alloc: Global, tasks: &[Task]) -> Result<Vec<Task>, AllocError>
+    ensures { IfOk result (λ copies. copies.items ≡ tasks.now) }
+{
+    let mut copies = Vec::with_capacity(alloc, tasks.len())?;
+    for task in tasks {
+        let task = task.copy()?;
+        copies.push(task)?;
+    }
+    Ok(copies)
 }

@@ -29,7 +29,7 @@ fn chain(rt: &HostRuntime) -> Result<ListFutures, Fail> {
 }
 
 fn jobs(futures: &ListFutures, rt: &HostRuntime, block: u64) -> Result<Vec<u64>, Fail> {
-    let due = futures.due(rt.alloc(), 1, block)?;
+    let due = futures.due(1, block)?;
     let mut jobs = Vec::new(rt.alloc());
     for task in due.as_slice() {
         jobs.push(task.job())?;

@@ -3,30 +3,28 @@ use Rattle.std.proofs.Common.{◌≡◌, ℕ, zero, suc, ◌^◌, ◌<◌, ◌�
 use Rattle.std.specs.Prelude.{IfOk, IfErr}
 use Rattle.std.proofs.lemmas.Bool.{ltb-true, lt-ltb, leb-true, le-leb, eqb-true}
 use Rattle.fb_bytes.specs.Options.{◌>>=◌}
+use Rattle.fb_bytes.specs.Results.{found_or}
+use Rattle.fb_bytes.proofs.Options.{bind_some}
 use Rattle.fb_bytes.specs.declared.key_range.KeyRange.{KeyRange}
 use Rattle.tuple_keys.specs.declared.element.Element.{Element}
 use Rattle.tuple_keys.specs.declared.element.Element.TheVariants.{Null, Bytes, Text, Int}
 use Rattle.task_kinds.specs.declared.kind.Kind.{Kind}
 use Rattle.task_kinds.specs.declared.kind.Kind.TheVariants.{BackupStart, BackupDispatch, BackupRange, BackupManifest, BackupLogs, BackupLog, BackupErase, BackupFinish, RestoreStart, RestoreDispatch, RestoreRange, RestoreLog, RestoreApply, RestoreComplete, DrStart, DrCopy, DrLogs, DrLog, DrApply, DrErase, DrFinish}
-use Rattle.task_kinds.specs.declared.kind.Row.{Row}
-use Rattle.task_kinds.specs.declared.kind.Row.TheVariants as rows
+use Rattle.task_kinds.specs.declared.kind.Shape.{Shape}
+use Rattle.task_kinds.specs.declared.kind.Shape.TheVariants as shapes
 use Rattle.task_kinds.specs.declared.params.Params.{Params}
 use Rattle.task_kinds.specs.declared.params.Params.TheVariants.{Nothing, Piece, Snapshot, Span, File, Range}
 use Rattle.task_kinds.specs.declared.fault.KindFault.{KindFault}
 use Rattle.task_kinds.specs.declared.fault.KindFault.TheVariants as faults
-use Rattle.task_kinds.specs.Kinds.{code_of, row_of, kinds, first_with, kind_with}
-use Rattle.task_kinds.specs.Params.{row_in, AreSmall}
+use Rattle.task_kinds.specs.Kinds.{code_of, shape_of, kinds, first_with, kind_with}
+use Rattle.task_kinds.specs.Params.{shape_in, AreSmall}
 use Rattle.task_kinds.specs.Tasks.{SeenTask, IsTask}
-use Rattle.task_kinds.specs.Tuples.{number, elements_of, tuple_of, number_at, bytes_at, ended, range_in, waiter_at, piece_at, snapshot_at, span_at, file_at, range_at, params_at, job_at, rest_of, found_or, task_with, kind_of, task_of}
+use Rattle.task_kinds.specs.Tuples.{number, elements_of, tuple_of, number_at, bytes_at, ended, range_in, waiter_at, piece_at, snapshot_at, span_at, file_at, range_at, params_at, job_at, rest_of, task_with, kind_of, task_of}
 
 -- ---- options
 
 some_is : {A : Type 0} (x y : A) → Some x ≡ Some y → x ≡ y
 some_is x y e = cc
-
-bind_some : {A B : Type 0} (o : Option A) (f : A → Option B) (y : B) → (o >>= f) ≡ Some y → (x : A) × (o ≡ Some x) × (f x ≡ Some y)
-bind_some None f y e = absurd cc
-bind_some (Some x) f y e = (x, refl, e)
 
 when_some : {A : Type 0} (b : Bool) (x y : A) → cond {A = Option A} b (Some x) None ≡ Some y → (b ≡ true) × (x ≡ y)
 when_some true x y e = (refl, some_is x y e)
@@ -91,11 +89,11 @@ waiter_again f b lf lb = rw (number_again f (number b ∷ []) lf, number_again b
 
 -- ---- parameters
 
--- what a row of parameters is read from
-abbrev TakesParams : Row → List Element → Params → Type 0
-TakesParams row es p = (es ≡ elements_of p) × (row_in p ≡ row) × AreSmall p
+-- what a shape of parameters is read from
+abbrev TakesParams : Shape → List Element → Params → Type 0
+TakesParams shape es p = (es ≡ elements_of p) × (shape_in p ≡ shape) × AreSmall p
 
-piece_takes : (es : List Element) (p : Params) → piece_at es ≡ Some p → TakesParams rows.Piece es p
+piece_takes : (es : List Element) (p : Params) → piece_at es ≡ Some p → TakesParams shapes.Piece es p
 piece_takes es p e =
     let s = bind_some (number_at es) (λ snapshot. range_in snapshot.1 >>= λ range. waiter_at range.1 >>= λ w. Some (Piece snapshot.0 range.0 w.0 w.1)) p e in
     let r = bind_some (range_in s.0.1) (λ range. waiter_at range.1 >>= λ w. Some (Piece s.0.0 range.0 w.0 w.1)) p s.2 in
@@ -103,17 +101,17 @@ piece_takes es p e =
     let ts = number_takes es s.0 s.1 in
     let tr = range_takes s.0.1 r.0 r.1 in
     let tw = waiter_takes r.0.1 w.0 w.1 in
-    subst (TakesParams rows.Piece es) (some_is (Piece s.0.0 r.0.0 w.0.0 w.0.1) p w.2)
+    subst (TakesParams shapes.Piece es) (some_is (Piece s.0.0 r.0.0 w.0.0 w.0.1) p w.2)
     (ts.0 ∙ ap (λ (l : List Element). number s.0.0 ∷ l) (tr ∙ ap (λ (l : List Element). Bytes r.0.0.begin ∷ Bytes r.0.0.end ∷ l) tw.0), refl, (ts.1, tw.1, tw.2))
 
-snapshot_takes : (es : List Element) (p : Params) → snapshot_at es ≡ Some p → TakesParams rows.Snapshot es p
+snapshot_takes : (es : List Element) (p : Params) → snapshot_at es ≡ Some p → TakesParams shapes.Snapshot es p
 snapshot_takes es p e =
     let s = bind_some (number_at es) (λ snapshot. ended snapshot.1 (Snapshot snapshot.0)) p e in
     let n = ended_some s.0.1 (Snapshot s.0.0) p s.2 in
     let ts = number_takes es s.0 s.1 in
-    subst (TakesParams rows.Snapshot es) n.1 (ts.0 ∙ ap (λ (l : List Element). number s.0.0 ∷ l) n.0, refl, ts.1)
+    subst (TakesParams shapes.Snapshot es) n.1 (ts.0 ∙ ap (λ (l : List Element). number s.0.0 ∷ l) n.0, refl, ts.1)
 
-span_takes : (es : List Element) (p : Params) → span_at es ≡ Some p → TakesParams rows.Span es p
+span_takes : (es : List Element) (p : Params) → span_at es ≡ Some p → TakesParams shapes.Span es p
 span_takes es p e =
     let b = bind_some (number_at es) (λ begin. number_at begin.1 >>= λ end. waiter_at end.1 >>= λ w. Some (Span begin.0 end.0 w.0 w.1)) p e in
     let d = bind_some (number_at b.0.1) (λ end. waiter_at end.1 >>= λ w. Some (Span b.0.0 end.0 w.0 w.1)) p b.2 in
@@ -121,36 +119,36 @@ span_takes es p e =
     let tb = number_takes es b.0 b.1 in
     let td = number_takes b.0.1 d.0 d.1 in
     let tw = waiter_takes d.0.1 w.0 w.1 in
-    subst (TakesParams rows.Span es) (some_is (Span b.0.0 d.0.0 w.0.0 w.0.1) p w.2)
+    subst (TakesParams shapes.Span es) (some_is (Span b.0.0 d.0.0 w.0.0 w.0.1) p w.2)
     (tb.0 ∙ ap (λ (l : List Element). number b.0.0 ∷ l) (td.0 ∙ ap (λ (l : List Element). number d.0.0 ∷ l) tw.0), refl, (tb.1, td.1, tw.1, tw.2))
 
-file_takes : (es : List Element) (p : Params) → file_at es ≡ Some p → TakesParams rows.File es p
+file_takes : (es : List Element) (p : Params) → file_at es ≡ Some p → TakesParams shapes.File es p
 file_takes es p e =
     let b = bind_some (number_at es) (λ place. waiter_at place.1 >>= λ w. Some (File place.0 w.0 w.1)) p e in
     let w = bind_some (waiter_at b.0.1) (λ w. Some (File b.0.0 w.0 w.1)) p b.2 in
     let tb = number_takes es b.0 b.1 in
     let tw = waiter_takes b.0.1 w.0 w.1 in
-    subst (TakesParams rows.File es) (some_is (File b.0.0 w.0.0 w.0.1) p w.2)
+    subst (TakesParams shapes.File es) (some_is (File b.0.0 w.0.0 w.0.1) p w.2)
     (tb.0 ∙ ap (λ (l : List Element). number b.0.0 ∷ l) tw.0, refl, (tb.1, tw.1, tw.2))
 
-range_params_take : (es : List Element) (p : Params) → range_at es ≡ Some p → TakesParams rows.Range es p
+range_params_take : (es : List Element) (p : Params) → range_at es ≡ Some p → TakesParams shapes.Range es p
 range_params_take es p e =
     let r = bind_some (range_in es) (λ range. waiter_at range.1 >>= λ w. Some (Range range.0 w.0 w.1)) p e in
     let w = bind_some (waiter_at r.0.1) (λ w. Some (Range r.0.0 w.0 w.1)) p r.2 in
     let tr = range_takes es r.0 r.1 in
     let tw = waiter_takes r.0.1 w.0 w.1 in
-    subst (TakesParams rows.Range es) (some_is (Range r.0.0 w.0.0 w.0.1) p w.2)
+    subst (TakesParams shapes.Range es) (some_is (Range r.0.0 w.0.0 w.0.1) p w.2)
     (tr ∙ ap (λ (l : List Element). Bytes r.0.0.begin ∷ Bytes r.0.0.end ∷ l) tw.0, refl, (tw.1, tw.2))
 
-params_take : (row : Row) (es : List Element) (p : Params) → params_at row es ≡ Some p → TakesParams row es p
-params_take rows.Nothing es p e = let n = ended_some es Nothing p e in subst (TakesParams rows.Nothing es) n.1 (n.0, refl, tt)
-params_take rows.Piece es p e = piece_takes es p e
-params_take rows.Snapshot es p e = snapshot_takes es p e
-params_take rows.Span es p e = span_takes es p e
-params_take rows.File es p e = file_takes es p e
-params_take rows.Range es p e = range_params_take es p e
+params_take : (shape : Shape) (es : List Element) (p : Params) → params_at shape es ≡ Some p → TakesParams shape es p
+params_take shapes.Nothing es p e = let n = ended_some es Nothing p e in subst (TakesParams shapes.Nothing es) n.1 (n.0, refl, tt)
+params_take shapes.Piece es p e = piece_takes es p e
+params_take shapes.Snapshot es p e = snapshot_takes es p e
+params_take shapes.Span es p e = span_takes es p e
+params_take shapes.File es p e = file_takes es p e
+params_take shapes.Range es p e = range_params_take es p e
 
-params_again : (p : Params) → AreSmall p → params_at (row_in p) (elements_of p) ≡ Some p
+params_again : (p : Params) → AreSmall p → params_at (shape_in p) (elements_of p) ≡ Some p
 params_again Nothing h = refl
 params_again (Piece s r f b) h = rw (number_again s (Bytes r.begin ∷ Bytes r.end ∷ number f ∷ number b ∷ []) h.0, waiter_again f b h.1 h.2) refl
 params_again (Snapshot s) h = rw (number_again s [] h) refl
@@ -205,16 +203,16 @@ pub record TakesRest (kind : Kind) (es : List Element) (t : SeenTask) : Type 0 w
 
 rest_takes : (kind : Kind) (es : List Element) (t : SeenTask) → rest_of kind es ≡ Some t → TakesRest kind es t
 rest_takes kind es t e =
-    let j = bind_some (job_at es) (λ job. params_at (row_of kind) job.1 >>= λ params. Some (record { job = job.0; kind = kind; params = params })) t e in
-    let p = bind_some (params_at (row_of kind) j.0.1) (λ params. Some (record { job = j.0.0; kind = kind; params = params })) t j.2 in
+    let j = bind_some (job_at es) (λ job. params_at (shape_of kind) job.1 >>= λ params. Some (record { job = job.0; kind = kind; params = params })) t e in
+    let p = bind_some (params_at (shape_of kind) j.0.1) (λ params. Some (record { job = j.0.0; kind = kind; params = params })) t j.2 in
     let n = bind_some (number_at es) (λ job. cond (leb 1 job.0) (Some job) None) j.0 j.1 in
     let w = when_some (leb 1 n.0.0) n.0 j.0 n.2 in
     let tn = subst (TakesNumber es) w.1 (number_takes es n.0 n.1) in
     let from : 1 ≤ j.0.0 = subst (λ (x : ℕ × List Element). 1 ≤ x.0) w.1 (leb-true _ _ w.0) in
-    let tp = params_take (row_of kind) j.0.1 p.0 p.1 in
+    let tp = params_take (shape_of kind) j.0.1 p.0 p.1 in
     let made : SeenTask = record { job = j.0.0; kind = kind; params = p.0 } in
     subst (TakesRest kind es) (some_is made t p.2) (record {
-      task = record { numbered = from; bounded = tn.1; row = tp.1; small = tp.2 };
+      task = record { numbered = from; bounded = tn.1; shape = tp.1; small = tp.2 };
       parts = tn.0 ∙ ap (λ (l : List Element). number j.0.0 ∷ l) tp.0;
       same = refl;
     })
@@ -246,15 +244,15 @@ job_takes es x e =
     let tn = number_takes es n.0 n.1 in
     subst (λ (y : ℕ × List Element). (1 ≤ y.0) × (y.0 < 2 ^ 63)) w.1 (leb-true _ _ w.0, tn.1)
 
-pub is_task : (kind : Kind) (es : List Element) (job : ℕ) (rest : List Element) (p : Params) → job_at es ≡ Some (job, rest) → params_at (row_of kind) rest ≡ Some p → IsTask (record { job = job; kind = kind; params = p })
+pub is_task : (kind : Kind) (es : List Element) (job : ℕ) (rest : List Element) (p : Params) → job_at es ≡ Some (job, rest) → params_at (shape_of kind) rest ≡ Some p → IsTask (record { job = job; kind = kind; params = p })
 is_task kind es job rest p e f =
     let j = job_takes es (job, rest) e in
-    let t = params_take (row_of kind) rest p f in
-    record { numbered = j.0; bounded = j.1; row = t.1; small = t.2 }
+    let t = params_take (shape_of kind) rest p f in
+    record { numbered = j.0; bounded = j.1; shape = t.1; small = t.2 }
 
 rest_again : (t : SeenTask) → IsTask t → rest_of t.kind (number t.job ∷ elements_of t.params) ≡ Some t
 rest_again t h =
-    rw (number_again t.job (elements_of t.params) h.bounded, le-leb 1 t.job h.numbered, ← h.row, params_again t.params h.small) refl
+    rw (number_again t.job (elements_of t.params) h.bounded, le-leb 1 t.job h.numbered, ← h.shape, params_again t.params h.small) refl
 
 pub task_again : (t : SeenTask) → IsTask t → task_of (tuple_of t) ≡ Ok t
 task_again t h = rw (kind_with_code t.kind, rest_again t h) refl

@@ -2,8 +2,8 @@
 use Rattle.std.specs.Prelude.{ℕ, Bool, true, false, List, [], ◌∷◌, Option, Some, None, codes, ◌==◌, if◌then◌else◌}
 use Rattle.task_kinds.specs.declared.kind.Kind.{Kind}
 use Rattle.task_kinds.specs.declared.kind.Kind.TheVariants.{BackupStart, BackupDispatch, BackupRange, BackupManifest, BackupLogs, BackupLog, BackupErase, BackupFinish, RestoreStart, RestoreDispatch, RestoreRange, RestoreLog, RestoreApply, RestoreComplete, DrStart, DrCopy, DrLogs, DrLog, DrApply, DrErase, DrFinish}
-use Rattle.task_kinds.specs.declared.kind.Row.{Row}
-use Rattle.task_kinds.specs.declared.kind.Row.TheVariants as rows
+use Rattle.task_kinds.specs.declared.kind.Shape.{Shape}
+use Rattle.task_kinds.specs.declared.kind.Shape.TheVariants as shapes
 
 -- the number of a kind in tuples
 abbrev pub code_of : Kind → ℕ
@@ -74,15 +74,15 @@ places_of RestoreLog = true
 places_of _ = false
 
 -- the parameters that the tasks of a kind have
-abbrev pub row_of : Kind → Row
-row_of BackupRange = rows.Piece
-row_of BackupManifest = rows.Snapshot
-row_of BackupLog = rows.Span
-row_of RestoreRange = rows.File
-row_of RestoreLog = rows.File
-row_of DrCopy = rows.Range
-row_of DrLog = rows.Span
-row_of _ = rows.Nothing
+abbrev pub shape_of : Kind → Shape
+shape_of BackupRange = shapes.Piece
+shape_of BackupManifest = shapes.Snapshot
+shape_of BackupLog = shapes.Span
+shape_of RestoreRange = shapes.File
+shape_of RestoreLog = shapes.File
+shape_of DrCopy = shapes.Range
+shape_of DrLog = shapes.Span
+shape_of _ = shapes.Nothing
 
 -- all of them, in the order of their codes
 abbrev pub kinds : List Kind

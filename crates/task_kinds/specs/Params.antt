@@ -1,17 +1,17 @@
 -- What parameters are.
 use Rattle.std.specs.Prelude.{ℕ, ◌<◌, ◌^◌}
-use Rattle.task_kinds.specs.declared.kind.Row.{Row}
-use Rattle.task_kinds.specs.declared.kind.Row.TheVariants as rows
+use Rattle.task_kinds.specs.declared.kind.Shape.{Shape}
+use Rattle.task_kinds.specs.declared.kind.Shape.TheVariants as shapes
 use Rattle.task_kinds.specs.declared.params.Params.{Params}
 use Rattle.task_kinds.specs.declared.params.Params.TheVariants.{Nothing, Piece, Snapshot, Span, File, Range}
 
-abbrev pub row_in : Params → Row
-row_in Nothing = rows.Nothing
-row_in (Piece snapshot range future block) = rows.Piece
-row_in (Snapshot snapshot) = rows.Snapshot
-row_in (Span begin end future block) = rows.Span
-row_in (File place future block) = rows.File
-row_in (Range range future block) = rows.Range
+abbrev pub shape_in : Params → Shape
+shape_in Nothing = shapes.Nothing
+shape_in (Piece snapshot range future block) = shapes.Piece
+shape_in (Snapshot snapshot) = shapes.Snapshot
+shape_in (Span begin end future block) = shapes.Span
+shape_in (File place future block) = shapes.File
+shape_in (Range range future block) = shapes.Range
 
 -- each number of the parameters is below 2 to the 63rd
 abbrev pub AreSmall : Params → Type 0

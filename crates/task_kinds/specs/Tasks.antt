@@ -2,8 +2,8 @@
 use Rattle.std.specs.Prelude.{◌≡◌, ℕ, ◌<◌, ◌≤◌, ◌^◌}
 use Rattle.task_kinds.specs.declared.kind.Kind.{Kind}
 use Rattle.task_kinds.specs.declared.params.Params.{Params}
-use Rattle.task_kinds.specs.Kinds.{row_of}
-use Rattle.task_kinds.specs.Params.{row_in, AreSmall}
+use Rattle.task_kinds.specs.Kinds.{shape_of}
+use Rattle.task_kinds.specs.Params.{shape_in, AreSmall}
 
 pub record SeenTask : Type 0 where
   pub job : ℕ
@@ -14,5 +14,5 @@ pub record SeenTask : Type 0 where
 pub record IsTask (task : SeenTask) : Type 0 where
   pub numbered : 1 ≤ task.job
   pub bounded : task.job < 2 ^ 63
-  pub row : row_in task.params ≡ row_of task.kind
+  pub shape : shape_in task.params ≡ shape_of task.kind
   pub small : AreSmall task.params

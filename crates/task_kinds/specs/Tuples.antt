@@ -1,17 +1,18 @@
 -- The one tuple of a task, and the task of a tuple.
 use Rattle.std.specs.Prelude.{◌≡◌, ℕ, ◌^◌, Bool, List, [], ◌∷◌, Option, Some, None, Result, Ok, Err, ℤ, pos, negsuc, nat_lt, nat_le, if◌then◌else◌}
 use Rattle.fb_bytes.specs.Options.{◌>>=◌}
+use Rattle.fb_bytes.specs.Results.{found_or}
 use Rattle.fb_bytes.specs.declared.key_range.KeyRange.{KeyRange}
 use Rattle.tuple_keys.specs.declared.element.Element.{Element}
 use Rattle.tuple_keys.specs.declared.element.Element.TheVariants.{Null, Bytes, Text, Int}
 use Rattle.task_kinds.specs.declared.kind.Kind.{Kind}
-use Rattle.task_kinds.specs.declared.kind.Row.{Row}
-use Rattle.task_kinds.specs.declared.kind.Row.TheVariants as rows
+use Rattle.task_kinds.specs.declared.kind.Shape.{Shape}
+use Rattle.task_kinds.specs.declared.kind.Shape.TheVariants as shapes
 use Rattle.task_kinds.specs.declared.params.Params.{Params}
 use Rattle.task_kinds.specs.declared.params.Params.TheVariants.{Nothing, Piece, Snapshot, Span, File, Range}
 use Rattle.task_kinds.specs.declared.fault.KindFault.{KindFault}
 use Rattle.task_kinds.specs.declared.fault.KindFault.TheVariants as faults
-use Rattle.task_kinds.specs.Kinds.{code_of, row_of, kind_with}
+use Rattle.task_kinds.specs.Kinds.{code_of, shape_of, kind_with}
 use Rattle.task_kinds.specs.Tasks.{SeenTask}
 
 abbrev pub number : ℕ → Element
@@ -90,13 +91,13 @@ range_at es = do
   waiter ← waiter_at range.1
   Some (Range range.0 waiter.0 waiter.1)
 
-abbrev pub params_at : Row → List Element → Option Params
-params_at rows.Nothing es = ended es Nothing
-params_at rows.Piece es = piece_at es
-params_at rows.Snapshot es = snapshot_at es
-params_at rows.Span es = span_at es
-params_at rows.File es = file_at es
-params_at rows.Range es = range_at es
+abbrev pub params_at : Shape → List Element → Option Params
+params_at shapes.Nothing es = ended es Nothing
+params_at shapes.Piece es = piece_at es
+params_at shapes.Snapshot es = snapshot_at es
+params_at shapes.Span es = span_at es
+params_at shapes.File es = file_at es
+params_at shapes.Range es = range_at es
 
 -- a job's number, from 1 on
 abbrev pub job_at : List Element → Option (ℕ × List Element)
@@ -107,12 +108,8 @@ job_at es = do
 abbrev pub rest_of : Kind → List Element → Option SeenTask
 rest_of kind es = do
   job ← job_at es
-  params ← params_at (row_of kind) job.1
+  params ← params_at (shape_of kind) job.1
   Some (record { job = job.0; kind = kind; params = params })
-
-abbrev pub found_or : {A : Type 0} → KindFault → Option A → Result A KindFault
-found_or fault None = Err fault
-found_or fault (Some x) = Ok x
 
 abbrev pub task_with : ℤ → Option Kind → List Element → Result SeenTask KindFault
 task_with code None es = Err (faults.Kind code)

@@ -1,5 +1,5 @@
 ghost use Rattle.std.specs.Prelude.{◌≡◌};
-ghost use Rattle.task_kinds.specs.Kinds.{code_of, word_of, takes_of, places_of, row_of, kind_with};
+ghost use Rattle.task_kinds.specs.Kinds.{code_of, word_of, takes_of, places_of, shape_of, kind_with};
 
 /// What a task does.
 #[derive(Clone, Copy, Debug, PartialEq, Eq)]
@@ -29,7 +29,7 @@ pub enum Kind {
 
 /// Which parameters the tasks of a kind have.
 #[derive(Clone, Copy, Debug, PartialEq, Eq)]
-pub enum Row {
+pub enum Shape {
     Nothing,
     /// A snapshot's piece of the keys.
     Piece,
@@ -43,7 +43,7 @@ pub enum Row {
 }
 
 macro_rules! code_in {
-    ([$kind:ident] $($variant:ident $code:literal $word:literal $takes:literal $places:literal $row:ident,)*) => {
+    ([$kind:ident] $($variant:ident $code:literal $word:literal $takes:literal $places:literal $shape:ident,)*) => {
         match $kind {
             $(Kind::$variant => $code,)*
         }
@@ -51,7 +51,7 @@ macro_rules! code_in {
 }
 
 macro_rules! word_in {
-    ([$kind:ident] $($variant:ident $code:literal $word:literal $takes:literal $places:literal $row:ident,)*) => {
+    ([$kind:ident] $($variant:ident $code:literal $word:literal $takes:literal $places:literal $shape:ident,)*) => {
         match $kind {
             $(Kind::$variant => $word,)*
         }
@@ -59,7 +59,7 @@ macro_rules! word_in {
 }
 
 macro_rules! takes_in {
-    ([$kind:ident] $($variant:ident $code:literal $word:literal $takes:literal $places:literal $row:ident,)*) => {
+    ([$kind:ident] $($variant:ident $code:literal $word:literal $takes:literal $places:literal $shape:ident,)*) => {
         match $kind {
             $(Kind::$variant => $takes,)*
         }
@@ -67,23 +67,23 @@ macro_rules! takes_in {
 }
 
 macro_rules! places_in {
-    ([$kind:ident] $($variant:ident $code:literal $word:literal $takes:literal $places:literal $row:ident,)*) => {
+    ([$kind:ident] $($variant:ident $code:literal $word:literal $takes:literal $places:literal $shape:ident,)*) => {
         match $kind {
             $(Kind::$variant => $places,)*
         }
     };
 }
 
-macro_rules! row_in {
-    ([$kind:ident] $($variant:ident $code:literal $word:literal $takes:literal $places:literal $row:ident,)*) => {
+macro_rules! shape_in {
+    ([$kind:ident] $($variant:ident $code:literal $word:literal $takes:literal $places:literal $shape:ident,)*) => {
         match $kind {
-            $(Kind::$variant => Row::$row,)*
+            $(Kind::$variant => Shape::$shape,)*
         }
     };
 }
 
 macro_rules! kind_in {
-    ([$code_read:ident] $($variant:ident $code:literal $word:literal $takes:literal $places:literal $row:ident,)*) => {
+    ([$code_read:ident] $($variant:ident $code:literal $word:literal $takes:literal $places:literal $shape:ident,)*) => {
         match $code_read {
             $($code => Some(Kind::$variant),)*
             _ => None,
@@ -132,10 +132,10 @@ impl Kind {
     }
 
     /// Which parameters its tasks have.
-    pub fn row(self) -> Row
-        ensures { result ≡ row_of self }
+    pub fn shape(self) -> Shape
+        ensures { result ≡ shape_of self }
     {
         let kind = self;
-        each_kind!(row_in kind)
+        each_kind!(shape_in kind)
     }
 }

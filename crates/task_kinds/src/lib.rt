@@ -38,7 +38,7 @@ mod task;
 mod tuples;
 
 pub use fault::KindFault;
-pub use kind::{Kind, Row};
+pub use kind::{Kind, Shape};
 pub use params::Params;
 pub use task::Task;
 pub use tuples::{from_tuple, to_tuple};

@@ -1,7 +1,7 @@
 ghost use Rattle.std.specs.Prelude.{◌≡◌, IfOk};
-ghost use Rattle.task_kinds.specs.Params.{row_in};
+ghost use Rattle.task_kinds.specs.Params.{shape_in};
 
-use crate::Row;
+use crate::Shape;
 use fb_bytes::KeyRange;
 use std::alloc::AllocError;
 
@@ -42,16 +42,16 @@ pub enum Params {
 
 impl Params {
     /// Which parameters they are.
-    pub fn row(&self) -> Row
-        ensures { result ≡ row_in self.now }
+    pub fn shape(&self) -> Shape
+        ensures { result ≡ shape_in self.now }
     {
         match self {
-            Params::Nothing => Row::Nothing,
-            Params::Piece { .. } => Row::Piece,
-            Params::Snapshot { .. } => Row::Snapshot,
-            Params::Span { .. } => Row::Span,
-            Params::File { .. } => Row::File,
-            Params::Range { .. } => Row::Range,
+            Params::Nothing => Shape::Nothing,
+            Params::Piece { .. } => Shape::Piece,
+            Params::Snapshot { .. } => Shape::Snapshot,
+            Params::Span { .. } => Shape::Span,
+            Params::File { .. } => Shape::File,
+            Params::Range { .. } => Shape::Range,
         }
     }
 

@@ -7,7 +7,7 @@ ghost use Rattle.task_kinds.specs.declared.fault.KindFault.TheVariants.{NoMemory
 ghost use Rattle.task_kinds.specs.Tasks.{SeenTask, IsTask};
 ghost use Rattle.task_kinds.specs.Tuples.{number, elements_of, tuple_of, number_at, bytes_at, range_in, waiter_at, piece_at, snapshot_at, span_at, file_at, range_at, params_at, job_at, rest_of, kind_of, task_of};
 
-use crate::{Kind, KindFault, Params, Row, Task};
+use crate::{Kind, KindFault, Params, Shape, Task};
 use fb_bytes::{Blob, KeyRange};
 use std::alloc::{AllocError, Global};
 use tuple_keys::{Element, Tuple};
@@ -212,22 +212,22 @@ fn range_of(elements: &[Element]) -> Result<Option<Params>, AllocError>
     }))
 }
 
-fn params_of(row: Row, elements: &[Element]) -> Result<Option<Params>, AllocError>
-    ensures { IfOk result (λ found. found ≡ params_at row elements.now) }
+fn params_of(shape: Shape, elements: &[Element]) -> Result<Option<Params>, AllocError>
+    ensures { IfOk result (λ found. found ≡ params_at shape elements.now) }
 {
-    match row {
-        Row::Nothing => {
+    match shape {
+        Shape::Nothing => {
             if elements.is_empty() {
                 Ok(Some(Params::Nothing))
             } else {
                 Ok(None)
             }
         }
-        Row::Piece => piece_of(elements),
-        Row::Snapshot => Ok(snapshot_of(elements)),
-        Row::Span => Ok(span_of(elements)),
-        Row::File => Ok(file_of(elements)),
-        Row::Range => range_of(elements),
+        Shape::Piece => piece_of(elements),
+        Shape::Snapshot => Ok(snapshot_of(elements)),
+        Shape::Span => Ok(span_of(elements)),
+        Shape::File => Ok(file_of(elements)),
+        Shape::Range => range_of(elements),
     }
 }
 
@@ -244,7 +244,7 @@ fn rest_of(kind: Kind, elements: &[Element]) -> Result<Option<Task>, AllocError>
     let Some((job, rest)) = job_of(elements) else {
         return Ok(None);
     };
-    match params_of(kind.row(), rest)? {
+    match params_of(kind.shape(), rest)? {
         Some(params) => Ok(Some(Task { job, kind, params })),
         None => Ok(None),
     }

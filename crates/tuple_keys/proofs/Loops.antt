@@ -4,6 +4,7 @@ use Rattle.std.proofs.Common.{◌≡◌, ℕ, zero, suc, ◌+◌, ◌-◌, ◌�
 use Rattle.std.proofs.lemmas.List.{append-nil, map_push, take_more, length-take, length-append}
 use Rattle.std.proofs.Math.Nat.{pow-le-pow_right}
 use Rattle.fb_bytes.specs.Bytes.{IsBytes}
+use Rattle.fb_bytes.specs.Results.{◌>>=◌, FailsBut}
 use Rattle.tuple_keys.proofs.Values.{value-push, value-below}
 use Rattle.tuple_keys.proofs.Parts.{ok_is, IsBytes-rest, IsBytes-take, turned-fits, turned-length}
 use Rattle.tuple_keys.specs.declared.element.Element.{Element}
@@ -13,7 +14,7 @@ use Rattle.tuple_keys.specs.declared.fault.TupleFault.{TupleFault}
 use Rattle.tuple_keys.specs.declared.fault.TupleFault.TheVariants.{Code, Open, Spelling, NotText, NoMemory}
 use Rattle.tuple_keys.specs.Spelling.{escaped, complement, element_spelling, spelling}
 use Rattle.tuple_keys.proofs.Elements.{TakesElement, element_takes, element_long, reading_takes, reading_again}
-use Rattle.tuple_keys.specs.Reading.{◌>>=◌, Fails, Gives, next_of, in_front, closed_at, digit_of, value, turned, element_at, elements_at, reading}
+use Rattle.tuple_keys.specs.Reading.{Gives, next_of, in_front, closed_at, digit_of, value, turned, element_at, elements_at, reading}
 
 pub escaped-append : (xs ys : List ℕ) → escaped (xs ++ ys) ≡ escaped xs ++ escaped ys
 escaped-append [] ys = refl
@@ -165,12 +166,8 @@ err_on total at front (code ∷ rest) f all long is h r = go r.most (omega (arit
     go zero enough same = absurd (omega arith)
     go (suc most) enough same = sym same ∙ rw (← is', h) refl
 
-pub reads_fail : (total at : ℕ) (front : List Element) (rest : List ℕ) (f : TupleFault) (all : Result (List Element) TupleFault) → (rest ≡ [] → ⊥) → at ≡ total - length rest → Fails f (element_at at rest) → Reads total front rest all → Fails f all
-reads_fail total at front rest NoMemory all long is h r = tt
-reads_fail total at front rest (Code k) all long is h r = err_on total at front rest (Code k) all long is h r
-reads_fail total at front rest (Open k) all long is h r = err_on total at front rest (Open k) all long is h r
-reads_fail total at front rest (Spelling k) all long is h r = err_on total at front rest (Spelling k) all long is h r
-reads_fail total at front rest (NotText k) all long is h r = err_on total at front rest (NotText k) all long is h r
+pub reads_fail : (total at : ℕ) (front : List Element) (rest : List ℕ) (f : TupleFault) (all : Result (List Element) TupleFault) → (rest ≡ [] → ⊥) → at ≡ total - length rest → FailsBut NoMemory f (element_at at rest) → Reads total front rest all → FailsBut NoMemory f all
+reads_fail total at front rest f all long is h r = elim h [ inl e ↦ inl e | inr e ↦ inr (err_on total at front rest f all long is e r) ]
 
 pub reads_all : (total : ℕ) (front : List Element) (rest : List ℕ) (all : Result (List Element) TupleFault) → rest ≡ [] → Reads total front rest all → all ≡ Ok front
 unfolding elements_at
@@ -185,19 +182,11 @@ is_found bytes (Err f) fits given = tt
 
 pub is_only : (bytes : List ℕ) (r : Result (List Element) TupleFault) (es : List Element) → Gives (λ es. es) r (reading bytes) → AreElements es → bytes ≡ spelling es → (r ≡ Ok es) ⊎ (r ≡ Err NoMemory)
 is_only bytes (Ok found) es given fits is = inl (ap Ok (ok_is found es (sym given ∙ ap reading is ∙ reading_again es fits)))
-is_only bytes (Err NoMemory) es given fits is = inr refl
-is_only bytes (Err (Code k)) es given fits is = absurd (let e = sym given ∙ ap reading is ∙ reading_again es fits in cc)
-is_only bytes (Err (Open k)) es given fits is = absurd (let e = sym given ∙ ap reading is ∙ reading_again es fits in cc)
-is_only bytes (Err (Spelling k)) es given fits is = absurd (let e = sym given ∙ ap reading is ∙ reading_again es fits in cc)
-is_only bytes (Err (NotText k)) es given fits is = absurd (let e = sym given ∙ ap reading is ∙ reading_again es fits in cc)
-
-pub is_fault : {Y : Type 0} (f : TupleFault) (read : Result Y TupleFault) → Fails f read → (f ≡ NoMemory) ⊎ (read ≡ Err f)
-is_fault NoMemory read h = inl refl
-is_fault (Code k) read h = inr h
-is_fault (Open k) read h = inr h
-is_fault (Spelling k) read h = inr h
-is_fault (NotText k) read h = inr h
+is_only bytes (Err f) es given fits is = elim given [
+  | inl e ↦ inr (ap Err e)
+  | inr e ↦ absurd (let wrong = sym e ∙ ap reading is ∙ reading_again es fits in cc)
+]
 
 pub is_err : (r read : Result (List Element) TupleFault) → Gives (λ es. es) r read → IfErr r (λ f. (f ≡ NoMemory) ⊎ (read ≡ Err f))
 is_err (Ok es) read given = tt
-is_err (Err f) read given = is_fault f read given
+is_err (Err f) read given = given

@@ -9,7 +9,7 @@ use Rattle.fb_bytes.specs.Bytes.{IsBytes}
 use Rattle.tuple_keys.specs.declared.fault.TupleFault.{TupleFault}
 use Rattle.tuple_keys.specs.declared.fault.TupleFault.TheVariants.{Open, Spelling, NotText}
 use Rattle.tuple_keys.specs.Spelling.{closed, digits, complement, int_spelling}
-use Rattle.tuple_keys.specs.Reading.{◌>>=◌, in_front, closed_at, text_of, value, turned, minus, signed, has_zero_in_front, int_at}
+use Rattle.tuple_keys.specs.Reading.{in_front, closed_at, text_of, value, turned, minus, signed, has_zero_in_front, int_at}
 use Rattle.tuple_keys.proofs.Values.{digits-value, value-short, value-longer, complement-fits, complement-length, complement-complement}
 
 -- ---- results
@@ -19,11 +19,6 @@ done x = Ok x
 
 pub ok_is : {A : Type 0} (x y : A) → done x ≡ done y → x ≡ y
 ok_is x y e = cc
-
--- the value of a step that did not fail
-pub bind_ok : {A B : Type 0} (r : Result A TupleFault) (f : A → Result B TupleFault) (y : B) → (r >>= f) ≡ Ok y → (x : A) × (r ≡ Ok x) × (f x ≡ Ok y)
-bind_ok (Ok x) f y e = (x, refl, e)
-bind_ok (Err d) f y e = absurd cc
 
 -- a test that did not fail
 pub guard_ok : {A : Type 0} (b : Bool) (d : TupleFault) (r : Result A TupleFault) (y : A) → cond b (Err d) r ≡ Ok y → (b ≡ false) × (r ≡ Ok y)

@@ -1,29 +1,17 @@
 -- Reading a tuple from left to right, with the first fault that is met.
-use Rattle.std.specs.Prelude.{◌≡◌, ℕ, ◌+◌, ◌*◌, ◌-◌, ◌^◌, zero, suc, Bool, true, false, ◌&&◌, List, [], ◌∷◌, length, take, drop, Option, Some, None, Result, Ok, Err, nat_lt, nat_le, ◌==◌, ℤ, pos, negsuc, if◌then◌else◌}
+use Rattle.std.specs.Prelude.{ℕ, ◌+◌, ◌*◌, ◌-◌, ◌^◌, zero, suc, Bool, true, false, ◌&&◌, List, [], ◌∷◌, length, take, drop, Option, Some, None, Result, Ok, Err, nat_lt, nat_le, ◌==◌, ℤ, pos, negsuc, if◌then◌else◌}
 use Rattle.std.specs.Str.{is_utf8}
 use Rattle.fb_bytes.specs.Bytes.{is_same}
+use Rattle.fb_bytes.specs.Results.{◌>>=◌, GivesBut}
 use Rattle.tuple_keys.specs.declared.element.Element.{Element}
 use Rattle.tuple_keys.specs.declared.element.Element.TheVariants.{Null, Bytes, Text, Int}
 use Rattle.tuple_keys.specs.declared.fault.TupleFault.{TupleFault}
 use Rattle.tuple_keys.specs.declared.fault.TupleFault.TheVariants.{Code, Open, Spelling, NotText, NoMemory}
 use Rattle.tuple_keys.specs.Spelling.{complement}
 
-infixl 10 ◌>>=◌
-abbrev pub ◌>>=◌ : {A B : Type 0} → Result A TupleFault → (A → Result B TupleFault) → Result B TupleFault
-(Ok x) >>= f = f x
-(Err e) >>= f = Err e
-
--- What a function returned, seen by view, is what reading gives, unless memory ran out.
-abbrev pub Fails : {Y : Type 0} → TupleFault → Result Y TupleFault → Type 0
-Fails NoMemory read = Unit {0}
-Fails (Code at) read = read ≡ Err (Code at)
-Fails (Open at) read = read ≡ Err (Open at)
-Fails (Spelling at) read = read ≡ Err (Spelling at)
-Fails (NotText at) read = read ≡ Err (NotText at)
-
+-- what a function returned, seen by view, is what the reading gives, unless memory ran out
 abbrev pub Gives : {X Y : Type 0} → (X → Y) → Result X TupleFault → Result Y TupleFault → Type 0
-Gives view (Ok x) read = read ≡ Ok (view x)
-Gives view (Err e) read = Fails e read
+Gives view answer reading = GivesBut NoMemory view answer reading
 
 -- the next byte of an escaped text, and none where it ends
 abbrev pub next_of : List ℕ → Option (ℕ × List ℕ)

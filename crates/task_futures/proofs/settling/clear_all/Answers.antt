@@ -1,6 +1,6 @@
 use Rattle.std.proofs.Common.{◌∙◌}
 use Rattle.task_futures.specs.Changes.{cleared}
-use Rattle.task_futures.proofs.Mapped.{mapped-step, mapped-all}
+use Rattle.fb_bytes.proofs.Mapped.{mapped-step, mapped-all}
 use Rattle.task_futures.proofs.settling.clear_all.Goals as goal
 
 pub loop-one-preserved : goal.loop-one-preserved

@@ -1,6 +1,6 @@
 use Rattle.std.proofs.Common.{◌≡◌}
 use Rattle.task_futures.specs.Changes.{cleared}
-use Rattle.task_futures.proofs.Mapped.{mapped}
+use Rattle.fb_bytes.proofs.Mapped.{mapped}
 use Rattle.task_futures.proofs.settling.clear_all.Given as goal
 
 abbrev pub invariant-loop-one : goal.invariant-loop-one

@@ -1,6 +1,6 @@
 use Rattle.std.proofs.Common.{◌≡◌}
 use Rattle.task_futures.specs.Futures.{unjoined}
-use Rattle.task_futures.proofs.Mapped.{mapped}
+use Rattle.fb_bytes.proofs.Mapped.{mapped}
 use Rattle.task_futures.proofs.settling.unlink_all.Given as goal
 
 abbrev pub invariant-loop-one : goal.invariant-loop-one

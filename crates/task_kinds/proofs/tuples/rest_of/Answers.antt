@@ -5,4 +5,4 @@ use Rattle.task_kinds.proofs.tuples.rest_of.Goals as goal
 
 pub invariant_of-result : goal.invariant_of-result
 invariant_of-result c =
-    is_task c.args.kind c.args.elements.now c.in-Some.job c.in-Some.rest.now c.in-Some-2.params c.in-Some.ensures (ap (λ row. params_at row c.in-Some.rest.now) (sym c.row.ensures) ∙ sym c.in_ok-params.ensures ∙ c.in-Some-2.is)
+    is_task c.args.kind c.args.elements.now c.in-Some.job c.in-Some.rest.now c.in-Some-2.params c.in-Some.ensures (ap (λ shape. params_at shape c.in-Some.rest.now) (sym c.shape.ensures) ∙ sym c.in_ok-params.ensures ∙ c.in-Some-2.is)

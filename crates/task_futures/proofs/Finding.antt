@@ -1,0 +1,156 @@
+-- The place of a future, where the numbers rise, and what a change at that place is.
+use Rattle.std.proofs.Common.{◌≡◌, ℕ, zero, suc, ◌+◌, ◌-◌, ◌<◌, ◌≤◌, Bool, true, false, not, cond, ◌&&◌, ◌||◌, eqb, ltb, List, [], ◌∷◌, ◌++◌, length, get_or, set, map, take, drop, refl, sym, ap, subst, ◌∙◌, arith}
+use Rattle.std.specs.List.{filter, prefix_len}
+use Rattle.std.specs.List.Sorted.{IsPartitionedBy, IsPartitionPoint}
+use Rattle.std.proofs.lemmas.Bool.{eqb-true, eq-eqb, ne_eqb, lt-ltb, le-ltb, ltb-true, ltb-false}
+use Rattle.std.proofs.lemmas.List.Sums.{prefix_len_is}
+use Rattle.task_futures.specs.Futures.{Part, SeenFuture, fresh_with, greatest_number, is_made, blocks_of, is_open, is_some_block, place_of, is_part}
+use Rattle.task_futures.specs.Laws.{ArePast, AreRising, HasPassedOn, HavePassedOn}
+use Rattle.task_futures.specs.Changes.{is_lesser, lesser_count, cleared}
+
+-- ---- halving
+
+past_at : (u : ℕ) (fs : List SeenFuture) (j : ℕ) (d : SeenFuture) → ArePast u fs → j < length fs → u < (get_or fs j d).number
+past_at u [] j d p lt = absurd (omega arith)
+past_at u (f ∷ fs) zero d p lt = p.0
+past_at u (f ∷ fs) (suc j) d p lt = past_at u fs j d p.1 (omega arith)
+
+pub parted : (number : ℕ) (fs : List SeenFuture) → AreRising fs → IsPartitionedBy (is_lesser number) fs
+parted number [] r i j d le lt e = absurd (omega arith)
+parted number (f ∷ fs) r zero zero d le lt e = e
+parted number (f ∷ fs) r zero (suc j) d le lt e =
+    let up = past_at f.number fs j d r.0 (omega arith) in
+    let low = ltb-true (get_or fs j d).number number e in
+    lt-ltb f.number number (omega (arith, up, low))
+parted number (f ∷ fs) r (suc i) zero d le lt e = absurd (omega arith)
+parted number (f ∷ fs) r (suc i) (suc j) d le lt e = parted number fs r.1 i j d (omega arith) (omega arith) e
+
+pub halved : (number : ℕ) (fs : List SeenFuture) (i : ℕ) → i ≤ length fs → IsPartitionPoint (λ f. is_lesser number f ≡ true) (λ f. is_lesser number f ≡ false) fs i → i ≡ lesser_count number fs
+halved number fs i le h =
+    sym (prefix_len_is (is_lesser number) fs i (fresh_with 0 []) le (λ k l. h.0 k (fresh_with 0 []) (omega arith) (omega arith)) (λ l. h.1 i (fresh_with 0 []) (omega arith) (omega arith)))
+
+-- ---- what is found
+
+one_more : (n : ℕ) → 1 + n ≡ n + 1
+one_more n = omega arith
+
+past_made : (u n : ℕ) (fs : List SeenFuture) → ArePast u fs → is_made n fs ≡ true → u < n
+past_made u n [] p e = absurd cc
+past_made u n (f ∷ fs) p e = go (eqb f.number n) refl e
+  where
+    go : (b : Bool) → eqb f.number n ≡ b → (b || is_made n fs) ≡ true → u < n
+    go true is e = let same = eqb-true f.number n is in omega (arith, same, p.0)
+    go false is e = past_made u n fs p.1 e
+
+pub made_place : (n : ℕ) (fs : List SeenFuture) → AreRising fs → is_made n fs ≡ true → lesser_count n fs ≡ place_of n fs
+made_place n [] r e = absurd cc
+made_place n (f ∷ fs) r e = go (eqb f.number n) refl e
+  where
+    go : (b : Bool) → eqb f.number n ≡ b → (b || is_made n fs) ≡ true → lesser_count n (f ∷ fs) ≡ cond b 0 (place_of n fs + 1)
+    go true is e = ap (λ b. cond b (1 + lesser_count n fs) 0) (le-ltb f.number n (let same = eqb-true f.number n is in omega (arith, same)))
+    go false is e =
+        ap (λ b. cond b (1 + lesser_count n fs) 0) (lt-ltb f.number n (past_made f.number n fs r.0 e))
+        ∙ ap (λ k. 1 + k) (made_place n fs r.1 e) ∙ one_more (place_of n fs)
+
+none_past : (u n : ℕ) (fs : List SeenFuture) → ArePast u fs → n ≤ u → blocks_of n fs ≡ []
+none_past u n [] p le = refl
+none_past u n (f ∷ fs) p le = ap (λ b. cond b f.blocks (blocks_of n fs)) (ne_eqb f.number n (λ e. omega (arith, p.0, e, le))) ∙ none_past u n fs p.1 le
+
+-- the blocks at the place are those of the number, if it is the number's
+pub found_blocks : (n : ℕ) (fs : List SeenFuture) (i : ℕ) (f : SeenFuture) → AreRising fs → i ≡ lesser_count n fs → i < length fs → f ≡ get_or fs i f → f.number ≡ n → f.blocks ≡ blocks_of n fs
+found_blocks n [] i f r is lt here same = absurd (omega arith)
+found_blocks n (x ∷ xs) i f r is lt here same = go (ltb x.number n) refl is
+  where
+    go : (b : Bool) → ltb x.number n ≡ b → i ≡ cond b (1 + lesser_count n xs) 0 → f.blocks ≡ blocks_of n (x ∷ xs)
+    go true e is =
+        let next : i ≡ suc (lesser_count n xs) = is in
+        let less = ltb-true x.number n e in
+        found_blocks n xs (lesser_count n xs) f r.1 refl (omega (arith, next)) (here ∙ ap (λ k. get_or (x ∷ xs) k f) next) same
+        ∙ sym (ap (λ b. cond b x.blocks (blocks_of n xs)) (ne_eqb x.number n (λ e. omega (arith, less, e))))
+    go false e is =
+        let this : f ≡ x = here ∙ ap (λ k. get_or (x ∷ xs) k f) is in
+        ap (λ y. y.blocks) this
+        ∙ sym (ap (λ b. cond b x.blocks (blocks_of n xs)) (eq-eqb x.number n (sym (ap (λ y. y.number) this) ∙ same)))
+
+pub missing_at : (n : ℕ) (fs : List SeenFuture) (i : ℕ) (f : SeenFuture) → AreRising fs → i ≡ lesser_count n fs → i < length fs → f ≡ get_or fs i f → (f.number ≡ n → ⊥) → blocks_of n fs ≡ []
+missing_at n [] i f r is lt here other = absurd (omega arith)
+missing_at n (x ∷ xs) i f r is lt here other = go (ltb x.number n) refl is
+  where
+    go : (b : Bool) → ltb x.number n ≡ b → i ≡ cond b (1 + lesser_count n xs) 0 → blocks_of n (x ∷ xs) ≡ []
+    go true e is =
+        let next : i ≡ suc (lesser_count n xs) = is in
+        let less = ltb-true x.number n e in
+        ap (λ b. cond b x.blocks (blocks_of n xs)) (ne_eqb x.number n (λ e. omega (arith, less, e)))
+        ∙ missing_at n xs (lesser_count n xs) f r.1 refl (omega (arith, next)) (here ∙ ap (λ k. get_or (x ∷ xs) k f) next) other
+    go false e is =
+        let this : f ≡ x = here ∙ ap (λ k. get_or (x ∷ xs) k f) is in
+        let more = ltb-false x.number n e in
+        ap (λ b. cond b x.blocks (blocks_of n xs)) (ne_eqb x.number n (λ q. other (ap (λ y. y.number) this ∙ q)))
+        ∙ none_past x.number n xs r.0 more
+
+pub missing_all : (n : ℕ) (fs : List SeenFuture) → length fs ≤ lesser_count n fs → blocks_of n fs ≡ []
+missing_all n [] le = refl
+missing_all n (x ∷ xs) le = go (ltb x.number n) refl le
+  where
+    go : (b : Bool) → ltb x.number n ≡ b → length (x ∷ xs) ≤ cond b (1 + lesser_count n xs) 0 → blocks_of n (x ∷ xs) ≡ []
+    go true e le =
+        let less = ltb-true x.number n e in
+        ap (λ b. cond b x.blocks (blocks_of n xs)) (ne_eqb x.number n (λ e. omega (arith, less, e))) ∙ missing_all n xs (omega arith)
+    go false e le = absurd (omega arith)
+
+-- ---- the last has the greatest number
+
+greatest_past : (u : ℕ) (fs : List SeenFuture) → ArePast u fs → 0 < length fs → u < greatest_number fs
+greatest_past u [] p lt = absurd (omega arith)
+greatest_past u (f ∷ fs) p lt = omega (arith, p.0)
+
+pub greatest_last : (fs : List SeenFuture) (i : ℕ) (f : SeenFuture) → AreRising fs → i + 1 ≡ length fs → f ≡ get_or fs i f → f.number ≡ greatest_number fs
+greatest_last [] i f r is here = absurd (omega arith)
+greatest_last (x ∷ []) zero f r is here = ap (λ y. y.number) here ∙ omega arith
+greatest_last (x ∷ y ∷ ys) zero f r is here = absurd (omega arith)
+greatest_last (x ∷ []) (suc i) f r is here = absurd (omega arith)
+greatest_last (x ∷ y ∷ ys) (suc i) f r is here =
+    let rest = greatest_last (y ∷ ys) i f r.1 (omega arith) here in
+    let more = greatest_past x.number (y ∷ ys) r.0 (omega arith) in
+    omega (arith, rest, more)
+
+-- ---- a block is cleared
+
+keeps_other : (n : ℕ) (p : Part) (bs : List ℕ) → eqb p.join n ≡ false → filter (λ b. not (is_part n b p)) bs ≡ bs
+keeps_other n p [] e = refl
+keeps_other n p (b ∷ bs) e =
+    ap (λ t. cond (not (t && eqb p.block b)) (b ∷ filter (λ b. not (is_part n b p)) bs) (filter (λ b. not (is_part n b p)) bs)) e ∙ ap (λ xs. b ∷ xs) (keeps_other n p bs e)
+
+cleared_other : (p : Part) (f : SeenFuture) → (p.join ≡ f.number → ⊥) → cleared p f ≡ f
+cleared_other p f no = λ i. record { number = f.number; blocks = keeps_other f.number p f.blocks (ne_eqb p.join f.number no) i; callbacks = f.callbacks; joins = f.joins }
+
+cleared_past : (u : ℕ) (p : Part) (fs : List SeenFuture) → ArePast u fs → p.join ≤ u → map (cleared p) fs ≡ fs
+cleared_past u p [] past le = refl
+cleared_past u p (f ∷ fs) past le = λ i. cleared_other p f (λ e. omega (arith, past.0, e, le)) i ∷ cleared_past u p fs past.1 le i
+
+pub cleared_there : (p : Part) (fs : List SeenFuture) (i : ℕ) (x d : SeenFuture) → AreRising fs → i ≡ lesser_count p.join fs → i < length fs → x ≡ cleared p (get_or fs i d) → set fs i x ≡ map (cleared p) fs
+cleared_there p [] i x d r is lt e = absurd (omega arith)
+cleared_there p (f ∷ fs) i x d r is lt e = go (ltb f.number p.join) refl is
+  where
+    go : (b : Bool) → ltb f.number p.join ≡ b → i ≡ cond b (1 + lesser_count p.join fs) 0 → set (f ∷ fs) i x ≡ map (cleared p) (f ∷ fs)
+    go true less is =
+        let next : i ≡ suc (lesser_count p.join fs) = is in
+        let low = ltb-true f.number p.join less in
+        ap (λ k. set (f ∷ fs) k x) next
+        ∙ ap (λ gs. f ∷ gs) (cleared_there p fs (lesser_count p.join fs) x d r.1 refl (omega (arith, next)) (e ∙ ap (λ k. cleared p (get_or (f ∷ fs) k d)) next))
+        ∙ ap (λ g. g ∷ map (cleared p) fs) (sym (cleared_other p f (λ q. omega (arith, low, q))))
+    go false less is =
+        let high = ltb-false f.number p.join less in
+        ap (λ k. set (f ∷ fs) k x) is
+        ∙ ap (λ g. g ∷ fs) (e ∙ ap (λ k. cleared p (get_or (f ∷ fs) k d)) is)
+        ∙ ap (λ gs. cleared p f ∷ gs) (sym (cleared_past f.number p fs r.0 high))
+
+pub cleared_none : (p : Part) (fs : List SeenFuture) → length fs ≤ lesser_count p.join fs → fs ≡ map (cleared p) fs
+cleared_none p [] le = refl
+cleared_none p (f ∷ fs) le = go (ltb f.number p.join) refl le
+  where
+    go : (b : Bool) → ltb f.number p.join ≡ b → length (f ∷ fs) ≤ cond b (1 + lesser_count p.join fs) 0 → f ∷ fs ≡ map (cleared p) (f ∷ fs)
+    go true less le =
+        let low = ltb-true f.number p.join less in
+        ap (λ g. g ∷ fs) (sym (cleared_other p f (λ q. omega (arith, low, q)))) ∙ ap (λ gs. cleared p f ∷ gs) (cleared_none p fs (omega arith))
+    go false less le = absurd (omega arith)
