@@ -1,4 +1,4 @@
-use Rattle.std.proofs.Common.{◌≡◌, ℕ, ◌<◌, List, [], ◌∷◌, ◌++◌, sym, ap, ◌∙◌, subst, arith}
+use Rattle.std.proofs.Common.{◌≡◌, ℕ, List, sym, ap, ◌∙◌, subst, arith}
 use Rattle.mutations.specs.declared.mutation.Mutation.{Mutation}
 use Rattle.mutations.specs.Effects.{effects}
 use Rattle.versioned_kv.specs.Chains.{Chain, value_at}
