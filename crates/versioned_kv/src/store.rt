@@ -103,6 +103,7 @@ impl Store {
         requires { IsPast version self.old.versions }
         ensures ok { OnOk result ((entries : List Batch) → Holds self.old entries → Holds self.new (with_entry entries version mutations.now)) }
         ensures same { OnOk result (StandsWith self.old (self.old.versions ++ version ∷ []) self.new) }
+        ensures rows { OnOk result (without version self.new.chains ≡ self.old.chains) }
         ensures err { OnErr result (self.new ≡ self.old) }
     {
         self.versions.push(version)?;
