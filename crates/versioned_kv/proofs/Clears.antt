@@ -1,12 +1,12 @@
 -- Keys of a range are taken away one after the other.
-use Rattle.std.proofs.Common.{◌≡◌, ℕ, zero, suc, ◌+◌, ◌<◌, ◌≤◌, Bool, true, false, not, ◌&&◌, cond, List, [], ◌∷◌, ◌++◌, length, Option, Some, None, take, drop, ⊎_elim, refl, sym, ap, ◌∙◌, subst, arith, is_some}
+use Rattle.std.proofs.Common.{◌≡◌, ℕ, zero, suc, ◌<◌, ◌≤◌, Bool, true, false, not, ◌&&◌, cond, List, [], ◌∷◌, length, Option, Some, None, drop, refl, sym, ap, ◌∙◌, subst, arith, is_some}
 use Rattle.std.specs.List.{slice_get, slice_set, AllByRecursion}
 use Rattle.fb_bytes.specs.Bytes.{Bytes, is_below, is_same}
 use Rattle.fb_bytes.specs.declared.KeyRange.{KeyRange}
 use Rattle.fb_bytes.specs.Keys.{holds}
 use Rattle.fb_bytes.proofs.Order.{not_both, below_trans, below_up, same_eq}
 use Rattle.mutations.proofs.Basics.{by_test, all_weaker}
-use Rattle.versioned_kv.specs.Chains.{Row, Chain, AreRising, AreChains, front_len, has_key_below, keys_below, value_in, rows_of, value_at}
+use Rattle.versioned_kv.specs.Chains.{Row, Chain, AreRising, AreChains, has_key_below, keys_below, value_in, rows_of, value_at}
 use Rattle.versioned_kv.specs.Edits.{put_row, without_rows, with_rows, without, clear_chain, cleared_upto, AreRowsUpto, AreUpto, Extends}
 use Rattle.versioned_kv.proofs.Search.{front_upto}
 use Rattle.versioned_kv.proofs.Places.{some_at}

@@ -1,5 +1,5 @@
 -- The rows of one version are taken away.
-use Rattle.std.proofs.Common.{◌≡◌, ℕ, zero, suc, ◌+◌, ◌-◌, ◌<◌, ◌≤◌, Bool, true, false, cond, List, [], ◌∷◌, ◌++◌, length, Option, Some, None, take, drop, ⊎_elim, inl, inr, refl, sym, ap, ◌∙◌, subst, arith, nat_eq, nat_le}
+use Rattle.std.proofs.Common.{◌≡◌, ℕ, zero, suc, ◌-◌, ◌<◌, ◌≤◌, Bool, true, false, cond, List, [], ◌∷◌, ◌++◌, length, Option, Some, None, take, drop, ⊎_elim, inl, inr, refl, sym, ap, ◌∙◌, subst, arith}
 use Rattle.std.specs.List.{slice_get, slice_set, remove, AllByRecursion}
 use Rattle.std.proofs.lemmas.Bool.{cases_eq, cases_lt, eq-eqb, ne_eqb, le-leb, lt-leb}
 use Rattle.fb_bytes.specs.Bytes.{Bytes, is_below, is_same}
@@ -8,11 +8,11 @@ use Rattle.fb_bytes.proofs.Order.{same_eq}
 use Rattle.mutations.proofs.Basics.{by_test, all_weaker}
 use Rattle.versioned_kv.specs.Chains.{Row, Chain, AreRising, AreChains, value_in, rows_of, value_at}
 use Rattle.versioned_kv.specs.Edits.{without_rows, with_rows, without, AreRowsUpto, AreUpto, Extends}
-use Rattle.versioned_kv.specs.Sound.{AreVersions, AreOf, IsSound}
+use Rattle.versioned_kv.specs.Sound.{AreVersions, AreOf}
 use Rattle.versioned_kv.proofs.Places.{some_at}
 use Rattle.versioned_kv.proofs.Lists.{AreRowsBelow, without_below}
 use Rattle.versioned_kv.proofs.Values.{later_keys}
-use Rattle.versioned_kv.proofs.Puts.{all_without, rising_without, value_without}
+use Rattle.versioned_kv.proofs.Puts.{rising_without, value_without}
 
 -- ---- from the last chain to the first
 

@@ -1,9 +1,9 @@
 -- The digits of a number are enough, and fewer aren't.
-use Rattle.std.proofs.Common.{◌≡◌, ℕ, zero, suc, ◌+◌, ◌-◌, ◌*◌, ◌^◌, ◌<◌, ◌≤◌, Bool, true, false, cond, ⊎_elim, refl, sym, ap, ◌∙◌, subst, arith, nat_lt}
+use Rattle.std.proofs.Common.{◌≡◌, ℕ, zero, suc, ◌+◌, ◌-◌, ◌*◌, ◌^◌, ◌<◌, ◌≤◌, ⊎_elim, sym, subst, arith, nat_lt}
 use Rattle.std.proofs.Math.Nat.{pow-suc}
 use Rattle.std.proofs.lemmas.Bool.{cases_lt, ltb-true, ltb-false}
 use Rattle.mutations.proofs.Basics.{by_test}
-use Rattle.versioned_kv.specs.Digits.{first_past, digits, AreDigits}
+use Rattle.versioned_kv.specs.Digits.{first_past, digits}
 use Rattle.versioned_kv.specs.Laws.{DigitsLaw}
 
 below_power : (n : ℕ) → n < 2 ^ n
@@ -30,5 +30,5 @@ pub digits_law : DigitsLaw
 digits_law n = record { enough = enough n 0 n (let e : 0 + n ≡ n = omega arith in subst (λ k. n < 2 ^ k) (sym e) (below_power n)); least = λ e h. least n 0 n e (omega arith) h }
 
 -- a bound for all numbers of digits that are enough is one for the digits
-pub by_digits : (a b start now : ℕ) → ((d e : ℕ) → a < 2 ^ d → b < 2 ^ e → now ≤ start + d + e + 2) → now ≤ start + (2 * digits a + 2 * digits b + 4)
+pub by_digits : (a b start now : ℕ) → ((d e : ℕ) → a < 2 ^ d → b < 2 ^ e → now ≤ start + (2 * d + e + 2)) → now ≤ start + (2 * digits a + 2 * digits b + 4)
 by_digits a b start now f = let h = f (digits a) (digits b) (digits_law a).enough (digits_law b).enough in omega arith

@@ -1,15 +1,15 @@
 -- What is forgotten leaves the later versions as they were.
-use Rattle.std.proofs.Common.{◌≡◌, ℕ, zero, suc, ◌+◌, ◌-◌, ◌<◌, ◌≤◌, Bool, true, false, cond, List, [], ◌∷◌, ◌++◌, length, Option, Some, None, take, drop, ⊎_elim, refl, sym, ap, ◌∙◌, subst, arith, nat_le}
+use Rattle.std.proofs.Common.{◌≡◌, ℕ, zero, suc, ◌-◌, ◌<◌, ◌≤◌, Bool, true, false, cond, List, [], ◌∷◌, length, Option, Some, None, drop, ⊎_elim, refl, sym, ap, ◌∙◌, subst, arith, nat_le}
 use Rattle.std.specs.List.{slice_get, slice_set, AllByRecursion}
-use Rattle.std.proofs.lemmas.Bool.{cases_lt, le-leb, lt-leb, leb-true}
+use Rattle.std.proofs.lemmas.Bool.{cases_lt, le-leb, lt-leb}
 use Rattle.fb_bytes.specs.Bytes.{Bytes, is_below, is_same}
 use Rattle.fb_bytes.specs.Options.{IsIn}
 use Rattle.mutations.specs.declared.batch.Batch.{Batch}
-use Rattle.mutations.proofs.Basics.{by_test, all_weaker}
-use Rattle.versioned_kv.specs.Chains.{Row, Chain, AreRising, AreChains, rows_upto, value_in, rows_of, value_at}
+use Rattle.mutations.proofs.Basics.{by_test}
+use Rattle.versioned_kv.specs.Chains.{Row, Chain, AreRising, AreChains, rows_upto, value_in, rows_of}
 use Rattle.versioned_kv.specs.Forgotten.{forgotten, forget_chain, forgotten_upto, all_forgotten}
-use Rattle.versioned_kv.specs.Sound.{AreOf, IsSound}
-use Rattle.versioned_kv.specs.Applied.{Contents, Holds}
+use Rattle.versioned_kv.specs.Sound.{AreOf}
+use Rattle.versioned_kv.specs.Applied.{Holds}
 use Rattle.versioned_kv.proofs.Search.{front_upto}
 use Rattle.versioned_kv.proofs.Places.{some_at}
 

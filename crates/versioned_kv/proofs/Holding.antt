@@ -1,5 +1,5 @@
 -- A store holds what was applied: one entry more, one entry back.
-use Rattle.std.proofs.Common.{◌≡◌, ℕ, zero, suc, ◌+◌, ◌-◌, ◌<◌, ◌≤◌, Bool, true, false, cond, List, [], ◌∷◌, ◌++◌, length, map, Option, Some, None, IsSome, ⊎_elim, refl, sym, ap, ◌∙◌, subst, arith}
+use Rattle.std.proofs.Common.{◌≡◌, ℕ, suc, ◌+◌, ◌-◌, ◌<◌, ◌≤◌, cond, List, [], ◌∷◌, ◌++◌, length, map, Option, Some, None, IsSome, ⊎_elim, refl, sym, ap, ◌∙◌, subst, arith}
 use Rattle.std.specs.List.{slice_get, AllByRecursion}
 use Rattle.std.specs.Option.{option_to_list}
 use Rattle.std.proofs.lemmas.Bool.{cases_lt, false≢true}
@@ -7,11 +7,11 @@ use Rattle.fb_bytes.specs.Bytes.{Bytes}
 use Rattle.mutations.specs.declared.batch.Batch.{Batch}
 use Rattle.mutations.specs.declared.mutation.Mutation.{Mutation}
 use Rattle.mutations.specs.Effects.{effects}
-use Rattle.mutations.specs.Replay.{is_within, replayed, AreRising}
+use Rattle.mutations.specs.Replay.{is_within, AreRising}
 use Rattle.mutations.proofs.Basics.{all_weaker}
 use Rattle.mutations.proofs.Replays.{within_is, above_within, replayed_append, replayed_agree}
 use Rattle.versioned_kv.specs.Chains.{Row, Chain, AreChains, value_in, rows_of, value_at}
-use Rattle.versioned_kv.specs.Edits.{without, without_rows, AreUpto, Extends}
+use Rattle.versioned_kv.specs.Edits.{without, AreUpto, Extends}
 use Rattle.versioned_kv.specs.Sound.{AreVersions, AreOf, IsSound}
 use Rattle.versioned_kv.specs.Applied.{Contents, Holds, IsPast, IsRetractable, applied_at, with_entry}
 use Rattle.versioned_kv.proofs.Puts.{value_without}

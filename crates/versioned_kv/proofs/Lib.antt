@@ -10,3 +10,6 @@ mod Holding
 mod Forgets
 mod Operations
 mod Scans
+mod Joined
+mod Everywhere
+mod Pages

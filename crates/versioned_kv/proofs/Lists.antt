@@ -1,9 +1,8 @@
 -- Lists: what holds of all of them, and of their last entry.
-use Rattle.std.proofs.Common.{◌≡◌, ℕ, zero, suc, ◌+◌, ◌-◌, ◌<◌, ◌≤◌, Bool, true, false, cond, List, [], ◌∷◌, ◌++◌, length, Option, Some, None, take, ⊎_elim, refl, sym, ap, ◌∙◌, subst, arith, nat_eq}
+use Rattle.std.proofs.Common.{◌≡◌, ℕ, suc, ◌-◌, ◌<◌, ◌≤◌, true, false, List, [], ◌∷◌, ◌++◌, length, Option, Some, None, take, ⊎_elim, refl, sym, ap, ◌∙◌, subst, arith}
 use Rattle.std.specs.List.{slice_get, slice_set, AllByRecursion}
 use Rattle.std.proofs.lemmas.Bool.{cases_order, eq-eqb, ne_eqb, eqb-true, eqb-false}
 use Rattle.fb_bytes.proofs.Order.{not_both}
-use Rattle.mutations.proofs.Basics.{by_test, all_weaker}
 use Rattle.versioned_kv.specs.Chains.{Row, AreRising}
 use Rattle.versioned_kv.specs.Edits.{without_rows, put_row, AreRowsUpto, is_row_of}
 

@@ -1,5 +1,5 @@
 -- An operation on the value of its key.
-use Rattle.std.proofs.Common.{◌≡◌, ℕ, Bool, true, false, cond, Option, refl, sym, ap, ◌∙◌, subst}
+use Rattle.std.proofs.Common.{◌≡◌, ℕ, Bool, true, false, cond, Option, refl, sym, ap, ◌∙◌}
 use Rattle.fb_bytes.specs.Bytes.{Bytes, is_same}
 use Rattle.fb_bytes.proofs.Order.{same_eq}
 use Rattle.atomic_ops.specs.declared.op.Op.{Op}

@@ -1,14 +1,14 @@
 -- What a row that is put at a key leaves.
-use Rattle.std.proofs.Common.{◌≡◌, ℕ, zero, suc, ◌+◌, ◌-◌, ◌<◌, ◌≤◌, Bool, true, false, cond, List, [], ◌∷◌, ◌++◌, length, Option, Some, None, Result, Ok, Err, OnOk, OnErr, take, drop, ⊎_elim, refl, sym, ap, ◌∙◌, subst, arith, nat_eq, nat_le}
+use Rattle.std.proofs.Common.{◌≡◌, ℕ, zero, suc, ◌<◌, ◌≤◌, Bool, true, false, cond, List, [], ◌∷◌, ◌++◌, length, Option, Some, None, Result, Ok, Err, OnOk, OnErr, ⊎_elim, refl, sym, ap, ◌∙◌, subst, arith, nat_eq, nat_le}
 use Rattle.std.specs.List.{slice_get, slice_set, insert, AllByRecursion}
 use Rattle.std.proofs.lemmas.Bool.{cases_eq, cases_order, eq-eqb, ne_eqb, le-leb, lt-leb}
 use Rattle.fb_bytes.specs.Bytes.{Bytes, is_below, is_same}
-use Rattle.fb_bytes.proofs.Order.{not_both, below_trans, below_itself, same_eq, same_itself, below_not_same, neither_below}
+use Rattle.fb_bytes.proofs.Order.{not_both, below_trans, below_itself, same_eq, same_itself, neither_below}
 use Rattle.mutations.proofs.Basics.{by_test, all_weaker}
 use Rattle.versioned_kv.specs.Chains.{Row, Chain, AreRising, AreChains, keys_below, value_in, rows_of, value_at}
 use Rattle.versioned_kv.specs.Edits.{without_rows, put_row, put_at, with_rows, without, is_chain_of, AreRowsUpto, AreUpto, Extends}
-use Rattle.versioned_kv.proofs.Lists.{AreRowsBelow, without_below}
-use Rattle.versioned_kv.proofs.Values.{later_keys, above_not_same}
+use Rattle.versioned_kv.proofs.Lists.{AreRowsBelow}
+use Rattle.versioned_kv.proofs.Values.{later_keys}
 
 -- ---- rows
 

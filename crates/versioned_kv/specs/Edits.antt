@@ -1,5 +1,5 @@
 -- What a version adds to keys, and what is left without it.
-use Rattle.std.specs.Prelude.{◌≡◌, ℕ, zero, suc, ◌≤◌, List, [], ◌∷◌, ◌++◌, Bool, false, Option, Some, None, nat_eq, is_some, ◌&&◌, map, if◌then◌else◌}
+use Rattle.std.specs.Prelude.{◌≡◌, ℕ, zero, suc, ◌≤◌, List, [], ◌∷◌, ◌++◌, Bool, false, Option, Some, None, nat_eq, is_some, if◌then◌else◌}
 use Rattle.std.specs.List.{AllByRecursion}
 use Rattle.fb_bytes.specs.Bytes.{Bytes, is_below, is_same}
 use Rattle.fb_bytes.specs.declared.KeyRange.{KeyRange}
@@ -65,3 +65,13 @@ abbrev pub cleared_upto : ℕ → KeyRange → ℕ → List Chain → List Chain
 cleared_upto zero range version chains = chains
 cleared_upto (suc place) range version [] = []
 cleared_upto (suc place) range version (chain ∷ chains) = (if holds range chain.key then clear_chain version chain else chain) ∷ cleared_upto place range version chains
+
+-- the chains once all those of the range are cleared
+abbrev pub all_cleared : KeyRange → ℕ → List Chain → List Chain
+all_cleared range version [] = []
+all_cleared range version (chain ∷ chains) = (if holds range chain.key then clear_chain version chain else chain) ∷ all_cleared range version chains
+
+-- some of the first chains are as they are once those of the range are cleared, and the others as they were
+pub record IsClearedUpto (range : KeyRange) (version : ℕ) (old new : List Chain) : Type 0 where
+  pub place : ℕ
+  pub cleared : new ≡ cleared_upto place range version old

@@ -2,6 +2,8 @@
 #![tactic(auto)]
 
 mod chain;
+mod chunks;
+mod keys;
 mod laws;
 mod page;
 mod steps;

@@ -11,8 +11,7 @@ ghost use Rattle.versioned_kv.specs.Sound.{AreVersions};
 ghost use Rattle.versioned_kv.specs.Pages.{IsPage};
 ghost use Rattle.versioned_kv.specs.Digits.{digits};
 
-use crate::chain::Chain;
-use crate::table::Table;
+use crate::keys::Keys;
 use crate::writes::write_all;
 use crate::{Page, Steps};
 use fb_bytes::KeyRange;
@@ -27,7 +26,7 @@ pub struct Store {
     limit: usize,
     oldest: u64,
     versions: Vec<u64>,
-    chains: Table<Chain>,
+    chains: Keys,
 }
 
 impl Model for Store {
@@ -52,7 +51,7 @@ impl Store {
             limit,
             oldest: 0,
             versions: Vec::new(alloc),
-            chains: Table::new(alloc),
+            chains: Keys::new(alloc),
         }
     }
 
@@ -104,6 +103,7 @@ impl Store {
         requires { IsPast version self.old.versions }
         ensures ok { OnOk result ((entries : List Batch) → Holds self.old entries → Holds self.new (with_entry entries version mutations.now)) }
         ensures same { OnOk result (StandsWith self.old (self.old.versions ++ version ∷ []) self.new) }
+        ensures rows { OnOk result (without version self.new.chains ≡ self.old.chains) }
         ensures err { OnErr result (self.new ≡ self.old) }
     {
         self.versions.push(version)?;
@@ -150,7 +150,7 @@ fn is_past(versions: &[u64], version: u64) -> bool
 
 /// Writes what mutations leave. Without memory some may be left out.
 fn write(
-    chains: &mut Table<Chain>,
+    chains: &mut Keys,
     version: u64,
     mutations: &[Mutation],
     limit: usize,
@@ -164,7 +164,7 @@ fn write(
 }
 
 fn write_counted<L: Ledger>(
-    chains: &mut Table<Chain>,
+    chains: &mut Keys,
     version: u64,
     mutations: &[Mutation],
     limit: usize,
@@ -183,7 +183,7 @@ fn write_counted<L: Ledger>(
 }
 
 /// Takes the rows of a version away, to which no row is newer.
-fn cut(chains: &mut Table<Chain>, version: u64)
+fn cut(chains: &mut Keys, version: u64)
     requires chains { AreChains chains.old }
     requires upto { AreUpto version chains.old }
     ensures { chains.new ≡ without version chains.old }
@@ -191,7 +191,7 @@ fn cut(chains: &mut Table<Chain>, version: u64)
     cut_counted::<Brand>(chains, version, Blank::new(1));
 }
 
-fn cut_counted<L: Ledger>(chains: &mut Table<Chain>, version: u64, blank: Blank)
+fn cut_counted<L: Ledger>(chains: &mut Keys, version: u64, blank: Blank)
     requires name { blank.name ≡ L.name }
     requires parts { blank.parts ≡ L.parts }
     requires some { 0 < blank.parts }
@@ -204,14 +204,14 @@ fn cut_counted<L: Ledger>(chains: &mut Table<Chain>, version: u64, blank: Blank)
 }
 
 /// Forgets the rows before the last one at or below the oldest version.
-fn forget(chains: &mut Table<Chain>, oldest: u64)
+fn forget(chains: &mut Keys, oldest: u64)
     requires { AreChains chains.old }
     ensures { chains.new ≡ all_forgotten oldest chains.old }
 {
     forget_counted::<Brand>(chains, oldest, Blank::new(1));
 }
 
-fn forget_counted<L: Ledger>(chains: &mut Table<Chain>, oldest: u64, blank: Blank)
+fn forget_counted<L: Ledger>(chains: &mut Keys, oldest: u64, blank: Blank)
     requires name { blank.name ≡ L.name }
     requires parts { blank.parts ≡ L.parts }
     requires some { 0 < blank.parts }
@@ -223,12 +223,7 @@ fn forget_counted<L: Ledger>(chains: &mut Table<Chain>, oldest: u64, blank: Blan
 }
 
 /// The first pairs of a range at a version.
-fn scan(
-    chains: &Table<Chain>,
-    range: &KeyRange,
-    version: u64,
-    limit: usize,
-) -> Result<Page, AllocError>
+fn scan(chains: &Keys, range: &KeyRange, version: u64, limit: usize) -> Result<Page, AllocError>
     requires { AreChains chains.now }
     ensures { IfOk result (λ page. IsPage (λ key. value_at chains.now key version) range.now limit page) }
 {
@@ -236,7 +231,7 @@ fn scan(
 }
 
 fn scan_counted<L: Ledger>(
-    chains: &Table<Chain>,
+    chains: &Keys,
     range: &KeyRange,
     version: u64,
     limit: usize,

@@ -1,11 +1,11 @@
-ghost use Rattle.std.specs.Prelude.{◌≡◌, ◌+◌, ◌<◌, List, [], length, Some, slice_get};
+ghost use Rattle.std.specs.Prelude.{◌≡◌, ◌+◌, ◌<◌, ◌≤◌, List, [], ◌∷◌, ◌++◌, length, take, drop, Some, slice_get, IfOk, OnOk, OnErr};
 
 mod edits;
 mod looks;
 mod scans;
 
 use crate::Steps;
-use std::alloc::Global;
+use std::alloc::{AllocError, Global};
 use std::marker::Model;
 use std::sync::ledger::Ledger;
 
@@ -51,5 +51,27 @@ impl<T> Table<T> {
     {
         steps.tick();
         &self.items[index]
+    }
+}
+
+impl<T: Drop> Table<T> {
+    /// Adds an entry at the end.
+    pub fn push(&mut self, entry: T) -> Result<(), AllocError>
+        ensures ok { OnOk result (self.new ≡ self.old ++ entry ∷ []) }
+        ensures err { OnErr result (self.new ≡ self.old) }
+    {
+        self.items.push(entry)?;
+        Ok(())
+    }
+
+    /// Takes the entries from a place on away, and hands them back.
+    pub fn split_off(&mut self, place: usize) -> Result<Self, AllocError>
+        requires { place ≤ length self.old }
+        ensures ok { OnOk result (self.new ≡ take place self.old) }
+        ensures rest { IfOk result (λ rest. rest ≡ drop place self.old) }
+        ensures err { OnErr result (self.new ≡ self.old) }
+    {
+        let items = self.items.split_off(place)?;
+        Ok(Table { items })
     }
 }

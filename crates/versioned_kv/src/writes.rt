@@ -8,8 +8,8 @@ ghost use Rattle.versioned_kv.specs.Chains.{AreChains, value_at};
 ghost use Rattle.versioned_kv.specs.Edits.{AreUpto, Extends};
 
 use crate::Steps;
-use crate::chain::{Chain, Row};
-use crate::table::Table;
+use crate::chain::Row;
+use crate::keys::Keys;
 use atomic_ops::Op;
 use fb_bytes::Blob;
 use mutations::Mutation;
@@ -18,7 +18,7 @@ use std::sync::ledger::Ledger;
 
 /// Writes what mutations leave, one after the other. Without memory some may be left out.
 pub fn write_all<L: Ledger>(
-    chains: &mut Table<Chain>,
+    chains: &mut Keys,
     version: u64,
     mutations: &[Mutation],
     limit: usize,
@@ -36,7 +36,7 @@ pub fn write_all<L: Ledger>(
 }
 
 fn write_one<L: Ledger>(
-    chains: &mut Table<Chain>,
+    chains: &mut Keys,
     version: u64,
     mutation: &Mutation,
     limit: usize,
@@ -67,7 +67,7 @@ fn write_one<L: Ledger>(
 
 /// What an operation leaves at a key.
 fn operated<L: Ledger>(
-    chains: &Table<Chain>,
+    chains: &Keys,
     version: u64,
     op: Op,
     key: &[u8],

@@ -4,7 +4,7 @@ ghost use Rattle.fb_bytes.specs.Keys.{holds};
 ghost use Rattle.mutations.specs.Effects.{range_of};
 ghost use Rattle.versioned_kv.specs.declared.chain.Chain.{Chain};
 ghost use Rattle.versioned_kv.specs.Chains.{AreChains, AreRising, value_at};
-ghost use Rattle.versioned_kv.specs.Edits.{AreRowsUpto, AreUpto, put_row, put_at, without_rows, is_chain_of, is_row_of, clear_chain, with_rows, without, Extends};
+ghost use Rattle.versioned_kv.specs.Edits.{AreRowsUpto, AreUpto, put_row, put_at, without_rows, is_chain_of, is_row_of, clear_chain, with_rows, without, all_cleared, IsClearedUpto};
 ghost use Rattle.versioned_kv.specs.Forgotten.{forgotten, forget_chain, all_forgotten};
 
 use super::Table;
@@ -105,7 +105,7 @@ impl Chain {
 
 impl Table<Chain> {
     /// Puts a row at the end of the rows of a key.
-    fn put<L: Ledger>(
+    pub fn put<L: Ledger>(
         &mut self,
         key: &[u8],
         row: Row,
@@ -124,21 +124,6 @@ impl Table<Chain> {
         let chain = Chain::of_row(*self.items.allocator(), key, row)?;
         self.items.insert(place, chain)?;
         Ok(())
-    }
-
-    /// Puts a row at the end of the rows of a key, which are of its version or older.
-    pub fn write<L: Ledger>(
-        &mut self,
-        key: &[u8],
-        row: Row,
-        steps: &mut Steps<L>,
-    ) -> Result<(), AllocError>
-        requires chains { AreChains self.old }
-        requires upto { AreUpto row.version self.old }
-        ensures extends { Extends row.version self.old self.new }
-        ensures ok { OnOk result ((at : Bytes) → value_at self.new at row.version ≡ (if is_same key.now at then row.value else value_at self.old at row.version)) }
-    {
-        self.put(key, row, steps)
     }
 
     /// Whether the chain at a place, if there is one, is that of the key.
@@ -178,8 +163,8 @@ impl Table<Chain> {
     ) -> Result<(), AllocError>
         requires chains { AreChains self.old }
         requires upto { AreUpto version self.old }
-        ensures extends { Extends version self.old self.new }
-        ensures ok { OnOk result ((key : Bytes) → value_at self.new key version ≡ (if holds (range_of begin.now end.now) key then None else value_at self.old key version)) }
+        ensures part { IsClearedUpto (range_of begin.now end.now) version self.old self.new }
+        ensures ok { OnOk result (self.new ≡ all_cleared (range_of begin.now end.now) version self.old) }
     {
         let first = self.place_of(begin, steps);
         let last = self.place_of(end, steps);

@@ -1,43 +1,43 @@
-ghost use Rattle.std.specs.Prelude.{◌≡◌, [], ◌∷◌, ◌++◌, IfOk, OnOk};
-ghost use Rattle.versioned_kv.specs.Chains.{AreChains, value_at};
-ghost use Rattle.versioned_kv.specs.Pages.{IsPage};
+ghost use Rattle.std.specs.Prelude.{◌≡◌, ◌≤◌, [], ◌∷◌, ◌++◌, length, IfOk, OnOk};
+ghost use Rattle.versioned_kv.specs.Chains.{AreChains};
+ghost use Rattle.versioned_kv.specs.Pages.{IsPart};
 
 use super::Table;
+use crate::Steps;
 use crate::chain::Chain;
-use crate::{Page, Steps};
-use fb_bytes::{Blob, KeyRange, Pair, Pairs};
+use fb_bytes::{Blob, KeyRange, Pair};
 use std::alloc::AllocError;
 use std::sync::ledger::Ledger;
 
 impl Table<Chain> {
-    /// The first pairs of a range at a version, at most as many as the limit.
+    /// Adds the pairs of a range at a version, as long as there are fewer than the limit, and tells
+    /// the first key that is left, where there is one.
     pub fn scan<L: Ledger>(
         &self,
         range: &KeyRange,
         version: u64,
         limit: usize,
+        pairs: &mut Vec<Pair>,
         steps: &mut Steps<L>,
-    ) -> Result<Page, AllocError>
-        requires { AreChains self.now }
-        ensures { IfOk result (λ page. IsPage (λ key. value_at self.now key version) range.now limit page) }
+    ) -> Result<Option<Blob>, AllocError>
+        requires chains { AreChains self.now }
+        requires few { length pairs.old.items ≤ limit }
+        ensures { IfOk result (λ next. IsPart range.now version limit self.now pairs.old.items pairs.new.items next) }
     {
         let first = self.place_of(range.begin.as_slice(), steps);
         let last = self.place_of(range.end.as_slice(), steps);
-        let mut pairs = Vec::new(self.allocator());
         for place in first..last {
             let chain = self.at(place, steps);
             let Some(value) = chain.rows.value(version, steps) else {
                 continue;
             };
             if pairs.len() == limit {
-                let next = Some(chain.key.copy()?);
-                let pairs = Pairs::from_vec(pairs);
-                return Ok(Page { pairs, next });
+                let next = chain.key.copy()?;
+                return Ok(Some(next));
             }
-            push_pair(&mut pairs, &chain.key, value)?;
+            push_pair(pairs, &chain.key, value)?;
         }
-        let pairs = Pairs::from_vec(pairs);
-        Ok(Page { pairs, next: None })
+        Ok(None)
     }
 }
 

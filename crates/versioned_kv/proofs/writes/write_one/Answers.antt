@@ -1,5 +1,4 @@
-use Rattle.std.proofs.Common.{◌≡◌, sym, ap, ◌∙◌}
-use Rattle.fb_bytes.specs.Bytes.{Bytes}
+use Rattle.std.proofs.Common.{sym, ap, ◌∙◌}
 use Rattle.mutations.specs.declared.mutation.Mutation.{Mutation}
 use Rattle.mutations.specs.Effects.{effect}
 use Rattle.versioned_kv.specs.Chains.{value_at}

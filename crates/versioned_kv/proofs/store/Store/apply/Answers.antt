@@ -1,4 +1,4 @@
-use Rattle.std.proofs.Common.{◌≡◌, ℕ, ◌<◌, List, [], ◌∷◌, ◌++◌, sym, ap, ◌∙◌, subst, arith}
+use Rattle.std.proofs.Common.{◌≡◌, ℕ, List, sym, ap, ◌∙◌, subst, arith}
 use Rattle.mutations.specs.declared.mutation.Mutation.{Mutation}
 use Rattle.mutations.specs.Effects.{effects}
 use Rattle.versioned_kv.specs.Chains.{Chain, value_at}
@@ -40,3 +40,9 @@ returns-in-Err-clause-err c =
     let chains : c.cut.new.chains ≡ s.chains = c.cut.ensures ∙ cut_back c.args.version s.versions.items s.chains c.write.new.chains c.self.invariant.in_order past c.self.invariant.known c.write.ensures.extends in
     let made = λ (vs : List ℕ) (cs : List Chain). let x : Contents = record { limit = s.limit; oldest = s.oldest; versions = vs; chains = cs } in x in
     ap (λ (vs : List ℕ). made vs c.cut.new.chains) versions ∙ ap (λ (cs : List Chain). made s.versions.items cs) chains ∙ c.self.view_is
+
+pub returns-in-Ok-clause-rows : goal.returns-in-Ok-clause-rows
+returns-in-Ok-clause-rows c =
+    let s = c.self.inside in
+    let past = subst (λ (x : Contents). IsPast c.args.version x.versions) (sym c.self.view_is) c.requires in
+    cut_back c.args.version s.versions.items s.chains c.write.new.chains c.self.invariant.in_order past c.self.invariant.known c.write.ensures.extends ∙ ap (λ (x : Contents). x.chains) c.self.view_is

@@ -1,4 +1,4 @@
-use Rattle.std.proofs.Common.{◌≤◌, List, sym, subst, arith}
+use Rattle.std.proofs.Common.{List, sym, subst, arith}
 use Rattle.versioned_kv.specs.Chains.{Chain, AreChains}
 use Rattle.versioned_kv.specs.Sound.{AreOf}
 use Rattle.versioned_kv.specs.Applied.{Contents, Holds}

@@ -1,8 +1,9 @@
-use Rattle.std.proofs.Common.{◌≡◌, suc, ◌+◌, ◌≤◌, List, sym, ap, ◌∙◌, subst, arith}
+use Rattle.std.proofs.Common.{◌≡◌, suc, ◌+◌, sym, ◌∙◌, subst, arith}
 use Rattle.mutations.specs.Effects.{range_of}
-use Rattle.versioned_kv.specs.Chains.{Chain, AreChains, value_at}
-use Rattle.versioned_kv.specs.Edits.{AreUpto, Extends, cleared_upto}
-use Rattle.versioned_kv.proofs.Clears.{clears_none, clear_within, clear_step, clear_extends, value_clear}
+use Rattle.versioned_kv.specs.Chains.{AreChains}
+use Rattle.versioned_kv.specs.Edits.{AreUpto, cleared_upto}
+use Rattle.versioned_kv.proofs.Clears.{clears_none, clear_within, clear_step, clear_extends}
+use Rattle.versioned_kv.proofs.Everywhere.{range_done}
 use Rattle.versioned_kv.proofs.table.edits.Table+Chain.clear.Goals as goal
 
 pub loop-place-init : goal.loop-place-init
@@ -17,8 +18,8 @@ clear_at-requires-clause-chains g c = subst AreChains (sym c.loop-place.invarian
 pub clear_at-requires-clause-upto : goal.clear_at-requires-clause-upto
 clear_at-requires-clause-upto g c = subst (AreUpto c.args.version) (sym c.loop-place.invariant) (clear_extends (range_of c.args.begin.now c.args.end.now) c.args.version c.loop-place.place c.args.self.now c.requires.chains c.requires.upto).upto
 
-pub returns-in_err-clear_at-clause-extends : goal.returns-in_err-clear_at-clause-extends
-returns-in_err-clear_at-clause-extends g c = subst (Extends c.args.version c.args.self.now) (sym (c.in_err-clear_at.ensures.err ∙ c.loop-place.invariant)) (clear_extends (range_of c.args.begin.now c.args.end.now) c.args.version c.loop-place.place c.args.self.now c.requires.chains c.requires.upto)
+pub returns-in_err-clear_at-clause-part : goal.returns-in_err-clear_at-clause-part
+returns-in_err-clear_at-clause-part g c = record { place = c.loop-place.place; cleared = c.in_err-clear_at.ensures.err ∙ c.loop-place.invariant }
 
 pub loop-place-preserved : goal.loop-place-preserved
 loop-place-preserved g c =
@@ -28,8 +29,8 @@ loop-place-preserved g c =
     let next : suc c.loop-place.place ≡ c.loop-place.place + 1 = omega arith in
     subst (λ place. c.clear_at.new.self ≡ cleared_upto place range c.args.version c.args.self.now) next (clear_step range c.args.version c.loop-place.place c.args.self.now c.loop-place.self c.clear_at.new.self c.requires.chains (omega arith) (omega arith) c.loop-place.invariant c.in_ok-clear_at.ensures.ok)
 
-pub returns-clause-extends : goal.returns-clause-extends
-returns-clause-extends g c = subst (Extends c.args.version c.args.self.now) (sym c.loop-place.invariant) (clear_extends (range_of c.args.begin.now c.args.end.now) c.args.version c.loop-place.place c.args.self.now c.requires.chains c.requires.upto)
+pub returns-clause-part : goal.returns-clause-part
+returns-clause-part g c = record { place = c.loop-place.place; cleared = c.loop-place.invariant }
 
 pub returns-clause-ok : goal.returns-clause-ok
-returns-clause-ok g c = λ key. let last = c.place_of-last.ensures.place in ap (λ (chains : List Chain). value_at chains key c.args.version) c.loop-place.invariant ∙ value_clear (range_of c.args.begin.now c.args.end.now) c.args.version c.loop-place.place c.args.self.now key c.requires.chains (omega arith)
+returns-clause-ok g c = let last = c.place_of-last.ensures.place in c.loop-place.invariant ∙ range_done (range_of c.args.begin.now c.args.end.now) c.args.version c.loop-place.place c.args.self.now c.requires.chains (omega arith)

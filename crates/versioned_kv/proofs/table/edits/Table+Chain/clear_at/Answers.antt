@@ -1,5 +1,5 @@
-use Rattle.std.proofs.Common.{◌≡◌, Some, List, sym, ap, ◌∙◌}
-use Rattle.std.specs.List.{slice_get, slice_set}
+use Rattle.std.proofs.Common.{◌≡◌, List, ap, ◌∙◌}
+use Rattle.std.specs.List.{slice_set}
 use Rattle.versioned_kv.specs.Chains.{Chain}
 use Rattle.versioned_kv.specs.Edits.{clear_chain}
 use Rattle.versioned_kv.proofs.Places.{on_ok, read_at}

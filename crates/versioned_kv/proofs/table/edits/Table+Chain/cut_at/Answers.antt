@@ -1,5 +1,5 @@
-use Rattle.std.proofs.Common.{◌≡◌, ◌<◌, Some, List, length, sym, ap, ◌∙◌, arith}
-use Rattle.std.specs.List.{slice_get, slice_set, remove}
+use Rattle.std.proofs.Common.{◌≡◌, ◌<◌, List, length, sym, ap, ◌∙◌, arith}
+use Rattle.std.specs.List.{slice_set, remove}
 use Rattle.versioned_kv.specs.Chains.{Row, Chain}
 use Rattle.versioned_kv.specs.Edits.{without_rows}
 use Rattle.versioned_kv.proofs.Places.{read_at}

@@ -1,4 +1,4 @@
-use Rattle.std.proofs.Common.{◌≡◌, suc, ◌+◌, ◌<◌, ◌≤◌, length, ap, ◌∙◌, subst, arith}
+use Rattle.std.proofs.Common.{◌≡◌, suc, ◌+◌, length, ap, ◌∙◌, subst, arith}
 use Rattle.versioned_kv.specs.Forgotten.{forgotten_upto}
 use Rattle.versioned_kv.proofs.Forgets.{forgets_len, forgets_all, forget_here, forget_step}
 use Rattle.versioned_kv.proofs.table.edits.Table+Chain.forget_all.Goals as goal

@@ -1,6 +1,5 @@
-use Rattle.std.proofs.Common.{◌≡◌, true, Some, List, sym, ap, ◌∙◌}
-use Rattle.std.specs.List.{slice_get, slice_set, insert}
-use Rattle.fb_bytes.specs.Bytes.{is_same}
+use Rattle.std.proofs.Common.{List, sym, ap, ◌∙◌}
+use Rattle.std.specs.List.{slice_set, insert}
 use Rattle.versioned_kv.specs.Chains.{Row, Chain}
 use Rattle.versioned_kv.proofs.Places.{on_ok, chain_at}
 use Rattle.versioned_kv.proofs.Puts.{set_here, insert_here}

@@ -1,4 +1,4 @@
-use Rattle.std.proofs.Common.{◌≡◌, ◌≤◌, true, false, length, sym, arith}
+use Rattle.std.proofs.Common.{◌≡◌, true, false, arith}
 use Rattle.fb_bytes.specs.Bytes.{is_same}
 use Rattle.versioned_kv.proofs.Values.{absent_past, absent_other, rows_here, rows_rise}
 use Rattle.versioned_kv.proofs.table.looks.Table+Chain.rows.Goals as goal

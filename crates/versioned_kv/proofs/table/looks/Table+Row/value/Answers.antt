@@ -1,4 +1,4 @@
-use Rattle.std.proofs.Common.{◌<◌, ◌∙◌, sym, arith}
+use Rattle.std.proofs.Common.{◌∙◌, sym, arith}
 use Rattle.versioned_kv.proofs.Values.{no_value, value_here}
 use Rattle.versioned_kv.proofs.table.looks.Table+Row.value.Goals as goal
 

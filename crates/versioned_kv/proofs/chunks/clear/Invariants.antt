@@ -1,0 +1,8 @@
+use Rattle.std.proofs.Common.{◌≡◌}
+use Rattle.mutations.specs.Effects.{range_of}
+use Rattle.fb_bytes.proofs.Mapped.{mapped}
+use Rattle.versioned_kv.specs.Edits.{all_cleared}
+use Rattle.versioned_kv.proofs.chunks.clear.Given as goal
+
+abbrev pub invariant-loop-place : goal.invariant-loop-place
+invariant-loop-place g l = l.chunks.items ≡ mapped (all_cleared (range_of l.begin l.end) l.version) l.place l.initial.chunks.items

@@ -1,0 +1,20 @@
+use Rattle.std.proofs.Common.{List, ap, ◌∙◌, subst}
+use Rattle.mutations.specs.Effects.{range_of}
+use Rattle.versioned_kv.specs.Chains.{Chain}
+use Rattle.versioned_kv.specs.Chunks.{joined}
+use Rattle.versioned_kv.specs.Edits.{all_cleared, IsClearedUpto}
+use Rattle.versioned_kv.proofs.Places.{on_ok}
+use Rattle.versioned_kv.proofs.Everywhere.{part_extends, all_value}
+use Rattle.versioned_kv.proofs.keys.Keys.clear.Goals as goal
+
+pub returns-clause-extends : goal.returns-clause-extends
+returns-clause-extends g c =
+    let range = range_of c.args.begin.now c.args.end.now in
+    part_extends range c.args.version c.args.self.now (joined c.clear.new.chunks.items) c.requires.chains c.requires.upto (subst (λ (x : List Chain). IsClearedUpto range c.args.version x (joined c.clear.new.chunks.items)) c.self.view_is c.clear.ensures.part)
+
+pub returns-clause-ok : goal.returns-clause-ok
+returns-clause-ok g c =
+    let range = range_of c.args.begin.now c.args.end.now in
+    on_ok c.clear.result
+    (λ e key. all_value range c.args.version c.args.self.now (joined c.clear.new.chunks.items) key c.requires.chains (e ∙ ap (all_cleared range c.args.version) c.self.view_is))
+    c.clear.ensures.ok

@@ -1,0 +1,26 @@
+use Rattle.std.proofs.Common.{List, sym, ap, ◌∙◌, subst}
+use Rattle.versioned_kv.specs.Chains.{Chain, AreChains, value_at}
+use Rattle.versioned_kv.specs.Chunks.{joined}
+use Rattle.versioned_kv.specs.Edits.{AreUpto, put_at, Extends}
+use Rattle.versioned_kv.proofs.Places.{on_ok}
+use Rattle.versioned_kv.proofs.Puts.{put_extends, value_put, same_extends, either}
+use Rattle.versioned_kv.proofs.keys.Keys.write.Goals as goal
+
+pub returns-clause-extends : goal.returns-clause-extends
+returns-clause-extends g c =
+    let old = joined c.self.inside.chunks.items in
+    let chains : AreChains old = subst AreChains (sym c.self.view_is) c.requires.chains in
+    let upto : AreUpto c.args.row.version old = subst (AreUpto c.args.row.version) (sym c.self.view_is) c.requires.upto in
+    subst (λ (x : List Chain). Extends c.args.row.version x (joined c.put.new.chunks.items)) c.self.view_is
+    (either c.put.result (Extends c.args.row.version old (joined c.put.new.chunks.items))
+    (λ e. subst (Extends c.args.row.version old) (sym e) (put_extends c.args.key.now c.args.row old chains upto))
+    (λ e. subst (Extends c.args.row.version old) (sym e) (same_extends c.args.row.version old chains upto))
+    c.put.ensures.ok c.put.ensures.err)
+
+pub returns-clause-ok : goal.returns-clause-ok
+returns-clause-ok g c =
+    let old = joined c.self.inside.chunks.items in
+    let chains : AreChains old = subst AreChains (sym c.self.view_is) c.requires.chains in
+    on_ok c.put.result
+    (λ e at. ap (λ (x : List Chain). value_at x at c.args.row.version) (e ∙ ap (put_at c.args.key.now c.args.row) c.self.view_is) ∙ value_put c.args.key.now c.args.row c.args.self.now at c.requires.chains)
+    c.put.ensures.ok

@@ -1,0 +1,123 @@
+ghost use Rattle.std.specs.Prelude.{◌≡◌, ℕ, ◌+◌, ◌*◌, ◌<◌, ◌≤◌, ◌^◌, [], length, IfOk, OnOk, None, if◌then◌else◌};
+ghost use Rattle.std.specs.Option.{option_copied};
+ghost use Rattle.fb_bytes.specs.Bytes.{Bytes, is_same};
+ghost use Rattle.fb_bytes.specs.Keys.{holds};
+ghost use Rattle.mutations.specs.Effects.{range_of};
+ghost use Rattle.versioned_kv.specs.Chains.{AreChains, rows_of, value_at};
+ghost use Rattle.versioned_kv.specs.Edits.{AreUpto, without, Extends};
+ghost use Rattle.versioned_kv.specs.Forgotten.{all_forgotten};
+ghost use Rattle.versioned_kv.specs.Pages.{IsPage};
+
+use crate::chain::{Chain, Row};
+use crate::table::Table;
+use crate::{Page, Steps, chunks};
+use fb_bytes::{Blob, KeyRange};
+use std::alloc::{AllocError, Global};
+use std::marker::Model;
+use std::sync::ledger::Ledger;
+
+/// Keys in order, each with its rows.
+#[derive(Debug, Drop)]
+pub struct Keys {
+    chunks: Vec<Table<Chain>>,
+}
+
+impl Model for Keys {
+    ghost use Rattle.std.specs.Prelude.{List};
+    ghost use Rattle.versioned_kv.specs.declared.chain.Chain.{Chain};
+    ghost use Rattle.versioned_kv.specs.Chunks.{joined, AreFilled};
+
+    ghost Value = { List Chain };
+
+    ghost view = { λ k. joined k.chunks.items };
+
+    ghost invariant = { λ k. AreFilled k.chunks.items };
+}
+
+impl Keys {
+    /// No key. It takes no memory.
+    pub fn new(alloc: Global) -> Self
+        ensures { result ≡ [] }
+    {
+        Keys {
+            chunks: Vec::new(alloc),
+        }
+    }
+
+    pub fn allocator(&self) -> Global {
+        *self.chunks.allocator()
+    }
+
+    /// What a version left at a key.
+    pub fn value<L: Ledger>(&self, key: &[u8], version: u64, steps: &mut Steps<L>) -> Option<&Blob>
+        requires { AreChains self.now }
+        ensures value { option_copied result ≡ value_at self.now key.now version }
+        ensures steps { (d e : ℕ) → length self.now < 2 ^ d → length (rows_of self.now key.now) < 2 ^ e → steps.new ≤ steps.old + (2 * d + e + 2) }
+    {
+        chunks::value(&self.chunks, key, version, steps)
+    }
+
+    /// Puts a row at the end of the rows of a key, which are of its version or older.
+    pub fn write<L: Ledger>(
+        &mut self,
+        key: &[u8],
+        row: Row,
+        steps: &mut Steps<L>,
+    ) -> Result<(), AllocError>
+        requires chains { AreChains self.old }
+        requires upto { AreUpto row.version self.old }
+        ensures extends { Extends row.version self.old self.new }
+        ensures ok { OnOk result ((at : Bytes) → value_at self.new at row.version ≡ (if is_same key.now at then row.value else value_at self.old at row.version)) }
+    {
+        chunks::put(&mut self.chunks, key, row, steps)
+    }
+
+    /// Takes the values of the keys of a range away. Without memory some may be left.
+    pub fn clear<L: Ledger>(
+        &mut self,
+        begin: &[u8],
+        end: &[u8],
+        version: u64,
+        steps: &mut Steps<L>,
+    ) -> Result<(), AllocError>
+        requires chains { AreChains self.old }
+        requires upto { AreUpto version self.old }
+        ensures extends { Extends version self.old self.new }
+        ensures ok { OnOk result ((key : Bytes) → value_at self.new key version ≡ (if holds (range_of begin.now end.now) key then None else value_at self.old key version)) }
+    {
+        chunks::clear(&mut self.chunks, begin, end, version, steps)
+    }
+
+    /// Takes the rows of a version away, to which no row is newer. It takes no memory.
+    pub fn cut_all<L: Ledger>(&mut self, version: u64, steps: &mut Steps<L>)
+        requires chains { AreChains self.old }
+        requires upto { AreUpto version self.old }
+        ensures { self.new ≡ without version self.old }
+    {
+        chunks::cut_all(&mut self.chunks, version, steps);
+    }
+
+    /// Forgets, of each key, the rows before the last one at or below the oldest version. It takes
+    /// no memory.
+    pub fn forget_all<L: Ledger>(&mut self, oldest: u64, steps: &mut Steps<L>)
+        requires { AreChains self.old }
+        ensures { self.new ≡ all_forgotten oldest self.old }
+    {
+        chunks::forget_all(&mut self.chunks, oldest, steps);
+    }
+
+    /// The first pairs of a range at a version, at most as many as the limit.
+    pub fn scan<L: Ledger>(
+        &self,
+        range: &KeyRange,
+        version: u64,
+        limit: usize,
+        steps: &mut Steps<L>,
+    ) -> Result<Page, AllocError>
+        requires { AreChains self.now }
+        ensures { IfOk result (λ page. IsPage (λ key. value_at self.now key version) range.now limit page) }
+    {
+        let alloc = self.allocator();
+        chunks::scan(&self.chunks, range, version, limit, alloc, steps)
+    }
+}
