@@ -6,7 +6,8 @@ use Rattle.fb_bytes.specs.Bytes.{is_below}
 use Rattle.fb_bytes.specs.declared.KeyRange.{KeyRange}
 use Rattle.mutations.proofs.Basics.{by_test, not_both, not_false}
 use Rattle.restore_apply.specs.Loaded.{LoadedFile, range_of}
-use Rattle.restore_apply.specs.Overlaps.{At, overlaps, overlaps_some, numbered, placed, in_order, overlapping, overlaps_file, are_apart, first_overlap}
+use Rattle.fb_bytes.specs.Keys.{overlaps}
+use Rattle.restore_apply.specs.Overlaps.{At, overlaps_some, numbered, placed, in_order, overlapping, overlaps_file, are_apart, first_overlap}
 use Rattle.restore_apply.specs.Laws.{OverlapLaw}
 
 -- ---- tests

@@ -1,6 +1,8 @@
 mod Apart
-mod Placing
-mod Tables
 mod Lines
-mod Joins
-mod Replays
+mod Tables
+mod Among
+mod Sorting
+mod Sweeps
+mod Batches
+mod Values

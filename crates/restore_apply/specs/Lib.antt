@@ -1,4 +1,5 @@
 pub mod Loaded
 pub mod Overlaps
 pub mod Laws
-pub mod Edits
+pub mod Pieces
+pub mod Tables

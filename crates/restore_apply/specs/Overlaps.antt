@@ -1,13 +1,11 @@
 -- Ranges that overlap, in the order of their begin keys.
-use Rattle.std.specs.Prelude.{ℕ, ◌+◌, Bool, true, false, not, ◌&&◌, ◌||◌, List, [], ◌∷◌, Option, Some, None, if◌then◌else◌}
+use Rattle.std.specs.Prelude.{◌≡◌, ℕ, ◌+◌, Bool, true, false, not, ◌&&◌, ◌||◌, List, [], ◌∷◌, Option, Some, None, if◌then◌else◌}
+use Rattle.std.specs.List.{AllByRecursion}
 use Rattle.fb_bytes.specs.Bytes.{is_below}
 use Rattle.fb_bytes.specs.declared.KeyRange.{KeyRange}
+use Rattle.fb_bytes.specs.Keys.{overlaps, is_backwards}
 use Rattle.restore_apply.specs.Loaded.{LoadedFile, range_of}
 pub use Rattle.restore_apply.specs.declared.overlaps.At.{At}
-
--- the ranges have a key in common, where both have keys
-abbrev pub overlaps : KeyRange → KeyRange → Bool
-overlaps a b = is_below a.begin b.end && is_below b.begin a.end
 
 abbrev pub overlaps_some : KeyRange → List At → Bool
 overlaps_some range [] = false
@@ -27,6 +25,21 @@ placed x (y ∷ ys) = if is_below y.range.begin x.range.begin then y ∷ placed 
 abbrev pub in_order : List At → List At
 in_order [] = []
 in_order (x ∷ xs) = placed x (in_order xs)
+
+-- each begins no earlier than those before it
+abbrev pub AreOrdered : List At → Type 0
+AreOrdered [] = Unit {0}
+AreOrdered (x ∷ xs) =
+    AllByRecursion (λ y. is_below y.range.begin x.range.begin ≡ false) xs × AreOrdered xs
+
+-- the range overlaps that one, if there is one
+abbrev pub overlaps_last : KeyRange → Option KeyRange → Bool
+overlaps_last range None = false
+overlaps_last range (Some last) = overlaps range last
+
+-- the range, where it has keys, and else the one before
+abbrev pub further : KeyRange → Option KeyRange → Option KeyRange
+further range last = if is_backwards range then last else Some range
 
 -- the first that overlaps one before it
 abbrev pub overlapping : List At → List At → Option At

@@ -6,6 +6,7 @@ mod loaded;
 mod meaning;
 mod order;
 mod overlaps;
+mod pieces;
 mod replay;
 mod table;
 

@@ -7,7 +7,9 @@ ghost use Rattle.restore_apply.specs.declared.meaning.LoadFault.TheVariants as f
 
 use crate::order::ordered;
 use crate::overlaps::first_overlap;
-use crate::replay::pairs_of;
+use crate::pieces::pieces_of;
+use crate::replay::replay;
+use crate::table::{pairs_of, values_of};
 use crate::{At, Loaded};
 use fb_bytes::{Blob, Pairs};
 use std::alloc::{AllocError, AllocFailed, Global};
@@ -48,7 +50,7 @@ pub fn whole(alloc: Global, set: &Loaded, version: u64) -> Result<Pairs, LoadFau
         let key = at.range.begin;
         return Err(LoadFault::Overlap { key });
     }
-    let pairs = pairs_in(alloc, set, &order, version)?;
+    let pairs = pairs_in(alloc, set, order, version)?;
     Ok(pairs)
 }
 
@@ -58,21 +60,18 @@ pub fn pairs_at(alloc: Global, set: &Loaded, version: u64) -> Result<Pairs, Allo
     ensures { IfOk result (λ pairs. (key : Bytes) → value_of pairs key ≡ loaded_at set.now version key) }
 {
     let order = ordered(alloc, set.files.as_slice())?;
-    pairs_in(alloc, set, &order, version)
+    pairs_in(alloc, set, order, version)
 }
 
-/// The pairs of files that are in the order of their begin keys.
-fn pairs_in(alloc: Global, set: &Loaded, order: &[At], version: u64) -> Result<Pairs, AllocError>
-    requires order { order.now ≡ spec.in_order (spec.numbered 0 set.now.files) }
+/// The pairs of files whose ranges stand in the order of their begin keys.
+fn pairs_in(alloc: Global, set: &Loaded, order: Vec<At>, version: u64) -> Result<Pairs, AllocError>
+    requires order { order.items ≡ spec.in_order (spec.numbered 0 set.now.files) }
     requires apart { spec.first_overlap set.now.files ≡ None }
     ensures { IfOk result (λ pairs. (key : Bytes) → value_of pairs key ≡ loaded_at set.now version key) }
 {
     let files = set.files.as_slice();
-    let links = set.links.as_slice();
-    let mut pairs = Vec::new(alloc);
-    for at in order {
-        let mut more = pairs_of(alloc, &files[at.place], &at.range, links, version)?;
-        pairs.append(&mut more)?;
-    }
-    Ok(Pairs::from_vec(pairs))
+    let pieces = pieces_of(alloc, files, order)?;
+    let mut table = values_of(alloc, files)?;
+    replay(alloc, &mut table, &pieces, set.links.as_slice(), version)?;
+    pairs_of(alloc, table)
 }

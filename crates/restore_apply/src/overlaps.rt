@@ -1,9 +1,9 @@
-ghost use Rattle.std.specs.Prelude.{◌≡◌, [], IfOk};
+ghost use Rattle.std.specs.Prelude.{◌≡◌, [], IfOk, option_copied};
 ghost use Rattle.restore_apply.specs.Overlaps as spec;
 
 use crate::LoadedFile;
 use crate::order::ordered;
-use fb_bytes::{KeyRange, is_below};
+use fb_bytes::KeyRange;
 use std::alloc::{AllocError, Global};
 
 /// The place of a file, counted from 0, and its range.
@@ -24,32 +24,38 @@ pub fn overlap(alloc: Global, files: &[LoadedFile]) -> Result<Option<At>, AllocE
 
 /// The first range that overlaps one before it.
 pub(crate) fn first_overlap(order: &[At]) -> Result<Option<At>, AllocError>
+    requires { spec.AreOrdered order.now }
     ensures { IfOk result (λ at. at ≡ spec.overlapping [] order.now) }
 {
-    for (index, at) in order.iter().enumerate() {
-        if overlaps_some(&at.range, &order[..index]) {
+    // The last one that has keys reaches furthest, as no two overlap so far.
+    let mut last = None;
+    for at in order {
+        if overlaps_last(&at.range, last) {
             let at = at.copy()?;
             return Ok(Some(at));
         }
+        last = further(&at.range, last);
     }
     Ok(None)
 }
 
-fn overlaps_some(range: &KeyRange, order: &[At]) -> bool
-    ensures { result ≡ spec.overlaps_some range.now order.now }
+fn overlaps_last(range: &KeyRange, last: Option<&KeyRange>) -> bool
+    ensures { result ≡ spec.overlaps_last range.now (option_copied last.entry) }
 {
-    for at in order {
-        if overlaps(range, &at.range) {
-            return true;
-        }
+    match last {
+        Some(last) => range.overlaps(last),
+        None => false,
     }
-    false
 }
 
-fn overlaps(a: &KeyRange, b: &KeyRange) -> bool
-    ensures { result ≡ spec.overlaps a.now b.now }
+fn further<'a>(range: &'a KeyRange, last: Option<&'a KeyRange>) -> Option<&'a KeyRange>
+    ensures { option_copied result ≡ spec.further range.now (option_copied last.entry) }
 {
-    is_below(a.begin.as_slice(), b.end.as_slice()) && is_below(b.begin.as_slice(), a.end.as_slice())
+    if range.is_backwards() {
+        last
+    } else {
+        Some(range)
+    }
 }
 
 impl At {

@@ -1,161 +1,164 @@
-//! A file's pairs, and the batches since its version made on them.
+//! The batches that links give, made on the keys that wait for them.
 
-ghost use Rattle.std.specs.Prelude.{◌≡◌, ◌+◌, max, min, IfOk, OnOk, if◌then◌else◌};
+ghost use Rattle.std.specs.Prelude.{◌≡◌, Some, IfOk, OnOk, if◌then◌else◌};
 ghost use Rattle.fb_bytes.specs.Bytes.{is_same};
 ghost use Rattle.atomic_ops.specs.Operation.{operation, bytes_left};
-ghost use Rattle.fb_bytes.specs.Pairs.{AreRising, value_of};
 ghost use Rattle.mutations.specs.Effects.{effect, effects};
-ghost use Rattle.mutations.specs.Replay.{is_within, replayed};
-ghost use Rattle.restore_apply.specs.Edits.{ArePairsOf, Leaves};
-ghost use Rattle.restore_apply.specs.Loaded.{replayed_links};
+ghost use Rattle.restore_apply.specs.Pieces as spec;
+ghost use Rattle.restore_apply.specs.Tables.{found, Leaves};
 
-use crate::table::{clear, kept, value, write};
-use crate::{LoadedFile, LoadedLink};
+use crate::LoadedLink;
+use crate::pieces::{Piece, clear_older, is_older};
+use crate::table::{value, write};
 use atomic_ops::Op;
-use fb_bytes::{Blob, KeyRange, Pair};
+use fb_bytes::Blob;
 use mutations::{Batch, Mutation};
 use std::alloc::{AllocError, Global};
+use std::collections::BTreeMap;
 
-/// The pairs of a file's range at a version.
-pub(crate) fn pairs_of(
+/// Makes the batches up to a version, each at the keys of the files that are older.
+pub(crate) fn replay(
     alloc: Global,
-    file: &LoadedFile,
-    range: &KeyRange,
+    table: &mut BTreeMap<Blob, Blob>,
+    pieces: &[Piece],
     links: &[LoadedLink],
-    version: u64,
-) -> Result<Vec<Pair>, AllocError>
-    ensures { IfOk result (λ pairs. Leaves range.now (replayed_links links.now (file.now.version + 1) (version + 1)) file.now.body.pairs pairs.items) }
-{
-    let mut pairs = kept(alloc, file.body.pairs.as_slice(), range)?;
-    for link in links {
-        replay_link(&mut pairs, range, link, file.version, version)?;
-    }
-    Ok(pairs)
-}
-
-/// Makes the link's batches after one version and up to another.
-fn replay_link(
-    pairs: &mut Vec<Pair>,
-    range: &KeyRange,
-    link: &LoadedLink,
-    after: u64,
     upto: u64,
 ) -> Result<(), AllocError>
-    requires { ArePairsOf range.now pairs.old.items }
-    ensures { OnOk result (Leaves range.now (replayed link.now.limit link.now.chunk.batches (max link.now.from (after + 1)) (min link.now.to (upto + 1))) pairs.old.items pairs.new.items) }
+    requires { spec.AreLine pieces.now }
+    ensures { OnOk result (Leaves (λ key. spec.links_since (spec.since pieces.now key) links.now upto key) table.old table.new) }
 {
-    let batches = link.chunk.batches.as_slice();
-    for batch in batches {
-        replay_batch(pairs, range, link, batch, after, upto)?;
+    for link in links {
+        replay_link(alloc, table, pieces, link, upto)?;
+    }
+    Ok(())
+}
+
+fn replay_link(
+    alloc: Global,
+    table: &mut BTreeMap<Blob, Blob>,
+    pieces: &[Piece],
+    link: &LoadedLink,
+    upto: u64,
+) -> Result<(), AllocError>
+    requires { spec.AreLine pieces.now }
+    ensures { OnOk result (Leaves (λ key. spec.batches_since (spec.since pieces.now key) link.now link.now.chunk.batches upto key) table.old table.new) }
+{
+    for batch in link.chunk.batches.as_slice() {
+        replay_batch(alloc, table, pieces, link, batch, upto)?;
     }
     Ok(())
 }
 
 fn replay_batch(
-    pairs: &mut Vec<Pair>,
-    range: &KeyRange,
+    alloc: Global,
+    table: &mut BTreeMap<Blob, Blob>,
+    pieces: &[Piece],
     link: &LoadedLink,
     batch: &Batch,
-    after: u64,
     upto: u64,
 ) -> Result<(), AllocError>
-    requires { ArePairsOf range.now pairs.old.items }
-    ensures { OnOk result (Leaves range.now (λ key old. if is_within (max link.now.from (after + 1)) (min link.now.to (upto + 1)) batch.now.version then effects link.now.limit batch.now.muts key old else old) pairs.old.items pairs.new.items) }
+    requires { spec.AreLine pieces.now }
+    ensures { OnOk result (Leaves (λ key old. if spec.is_due (spec.since pieces.now key) link.now upto batch.now.version then effects link.now.limit batch.now.muts key old else old) table.old table.new) }
 {
-    if !is_due(link, after, upto, batch.version) {
+    if !gives(link, upto, batch.version) {
         return Ok(());
     }
-    make_all(pairs, range, batch.muts.as_slice(), link.limit)
+    make_all(alloc, table, pieces, batch, link.limit)
 }
 
-/// Whether the link gives a version that is after one and up to another.
-fn is_due(link: &LoadedLink, after: u64, upto: u64, version: u64) -> bool
-    ensures { result ≡ is_within (max link.now.from (after + 1)) (min link.now.to (upto + 1)) version }
+/// Whether the link gives a version, and the version is up to the last.
+fn gives(link: &LoadedLink, upto: u64, version: u64) -> bool
+    ensures { result ≡ spec.gives link.now upto version }
 {
-    link.from <= version && after < version && version < link.to && version <= upto
+    link.from <= version && version < link.to && version <= upto
 }
 
-/// Makes mutations as far as they touch keys of the range.
+/// Makes the mutations of a batch at the keys of the files that are older.
 fn make_all(
-    pairs: &mut Vec<Pair>,
-    range: &KeyRange,
-    mutations: &[Mutation],
+    alloc: Global,
+    table: &mut BTreeMap<Blob, Blob>,
+    pieces: &[Piece],
+    batch: &Batch,
     limit: usize,
 ) -> Result<(), AllocError>
-    requires { ArePairsOf range.now pairs.old.items }
-    ensures { OnOk result (Leaves range.now (effects limit mutations.now) pairs.old.items pairs.new.items) }
+    requires { spec.AreLine pieces.now }
+    ensures { OnOk result (Leaves (λ key. spec.effects_if (spec.is_older (spec.since pieces.now key) batch.now.version) limit batch.now.muts key) table.old table.new) }
 {
-    for mutation in mutations {
-        make(pairs, range, mutation, limit)?;
+    for mutation in batch.muts.as_slice() {
+        make(alloc, table, pieces, batch.version, mutation, limit)?;
     }
     Ok(())
 }
 
 fn make(
-    pairs: &mut Vec<Pair>,
-    range: &KeyRange,
+    alloc: Global,
+    table: &mut BTreeMap<Blob, Blob>,
+    pieces: &[Piece],
+    version: u64,
     mutation: &Mutation,
     limit: usize,
 ) -> Result<(), AllocError>
-    requires { ArePairsOf range.now pairs.old.items }
-    ensures { OnOk result (Leaves range.now (effect limit mutation.now) pairs.old.items pairs.new.items) }
+    requires { spec.AreLine pieces.now }
+    ensures { OnOk result (Leaves (λ key old. if spec.is_older (spec.since pieces.now key) version then effect limit mutation.now key old else old) table.old table.new) }
 {
     match mutation {
-        Mutation::Set { key, value } => set(pairs, range, key.as_slice(), value),
-        Mutation::ClearRange { begin, end } => {
-            clear(pairs, begin.as_slice(), end.as_slice());
-            Ok(())
-        }
+        Mutation::Set { key, value } => set(table, pieces, version, key, value),
+        Mutation::ClearRange { begin, end } => clear_older(table, pieces, version, begin, end),
         Mutation::Atomic { op, key, param } => {
-            operate(pairs, range, *op, key.as_slice(), param.as_slice(), limit)
+            if !is_older(pieces, key.as_slice(), version) {
+                return Ok(());
+            }
+            operate(alloc, table, *op, key, param, limit)
         }
     }
 }
 
-/// Gives a key a value, where the range holds the key.
-fn set(pairs: &mut Vec<Pair>, range: &KeyRange, key: &[u8], value: &Blob) -> Result<(), AllocError>
-    requires { ArePairsOf range.now pairs.old.items }
-    ensures { OnOk result (Leaves range.now (λ at old. if is_same key.now at then Some value.now else old) pairs.old.items pairs.new.items) }
+/// Gives a key a value, if it is in a file that is older.
+fn set(
+    table: &mut BTreeMap<Blob, Blob>,
+    pieces: &[Piece],
+    version: u64,
+    key: &Blob,
+    value: &Blob,
+) -> Result<(), AllocError>
+    requires { spec.AreLine pieces.now }
+    ensures { OnOk result (Leaves (λ at old. if spec.is_older (spec.since pieces.now at) version then (if is_same key.now at then Some value.now else old) else old) table.old table.new) }
 {
-    if !range.contains(key) {
+    if !is_older(pieces, key.as_slice(), version) {
         return Ok(());
     }
     let value = value.copy()?;
-    write(pairs, key, Some(value))
+    write(table, key, Some(value))
 }
 
-/// Gives a key what an operation leaves, where the range holds the key.
+/// Gives a key what an operation leaves.
 fn operate(
-    pairs: &mut Vec<Pair>,
-    range: &KeyRange,
+    alloc: Global,
+    table: &mut BTreeMap<Blob, Blob>,
     op: Op,
-    key: &[u8],
-    param: &[u8],
+    key: &Blob,
+    param: &Blob,
     limit: usize,
 ) -> Result<(), AllocError>
-    requires { ArePairsOf range.now pairs.old.items }
-    ensures { OnOk result (Leaves range.now (λ at old. if is_same key.now at then operation op old param.now limit else old) pairs.old.items pairs.new.items) }
+    ensures { OnOk result (Leaves (λ at old. if is_same key.now at then operation op old param.now limit else old) table.old table.new) }
 {
-    if !range.contains(key) {
-        return Ok(());
-    }
-    let left = operated(pairs, op, key, param, limit)?;
-    write(pairs, key, left)
+    let left = operated(alloc, table, op, key, param, limit)?;
+    write(table, key, left)
 }
 
 /// What an operation leaves at a key.
 fn operated(
-    pairs: &Vec<Pair>,
+    alloc: Global,
+    table: &BTreeMap<Blob, Blob>,
     op: Op,
-    key: &[u8],
-    param: &[u8],
+    key: &Blob,
+    param: &Blob,
     limit: usize,
 ) -> Result<Option<Blob>, AllocError>
-    requires { AreRising pairs.now.items }
-    ensures { IfOk result (λ left. left ≡ operation op (value_of pairs.now.items key.now) param.now limit) }
+    ensures { IfOk result (λ left. left ≡ operation op (found table.now key.now) param.now limit) }
 {
-    let old = value(pairs, key);
-    let left = atomic_ops::apply(*pairs.allocator(), op, old, param, limit)?;
+    let old = value(table, key);
+    let left = atomic_ops::apply(alloc, op, old, param.as_slice(), limit)?;
     Ok(blob_of(left))
 }
 

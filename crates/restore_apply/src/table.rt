@@ -1,131 +1,134 @@
-//! Pairs in the order of their keys, and writes to them.
+//! The values of keys while batches are made on them.
 
-ghost use Rattle.std.specs.Prelude.{◌≡◌, ◌≤◌, ◌++◌, length, take, drop, Some, None, slice_get, IfOk, OnOk, option_map};
-ghost use Rattle.fb_bytes.specs.Bytes.{Bytes};
-ghost use Rattle.fb_bytes.specs.Pairs.{AreRising, value_of};
-ghost use Rattle.restore_apply.specs.Edits.{keys_below, is_of, written, inside, outside};
+ghost use Rattle.std.specs.Prelude.{◌≡◌, true, Some, None, IfOk, OnOk, IsSome, MatchOption, option_copied, if◌then◌else◌};
+ghost use Rattle.fb_bytes.specs.Bytes.{Bytes, is_same};
+ghost use Rattle.fb_bytes.specs.Keys.{holds};
+ghost use Rattle.fb_bytes.specs.Pairs.{value_of};
+ghost use Rattle.mutations.specs.Effects.{range_of};
+ghost use Rattle.restore_apply.specs.Loaded as loaded;
+ghost use Rattle.restore_apply.specs.Tables.{found, file_in, files_in, Leaves};
 
-use fb_bytes::{Blob, KeyRange, Pair, is_below, is_same};
+use crate::LoadedFile;
+use fb_bytes::{Blob, Pair, Pairs, is_below};
 use std::alloc::{AllocError, Global};
+use std::collections::BTreeMap;
 
-/// The pairs whose keys the range holds.
-pub(crate) fn kept(alloc: Global, pairs: &[Pair], range: &KeyRange) -> Result<Vec<Pair>, AllocError>
-    ensures { IfOk result (λ kept. kept.items ≡ inside range.now pairs.now) }
+/// The pairs of files, as far as their ranges hold the keys.
+pub(crate) fn values_of(
+    alloc: Global,
+    files: &[LoadedFile],
+) -> Result<BTreeMap<Blob, Blob>, AllocError>
+    ensures { IfOk result (λ table. (key : Bytes) → found table key ≡ files_in files.now key None) }
 {
-    let mut kept = Vec::new(alloc);
-    for pair in pairs {
-        if !range.contains(pair.key.as_slice()) {
-            continue;
-        }
-        let pair = pair.copy()?;
-        kept.push(pair)?;
+    let mut table = BTreeMap::new(alloc);
+    for file in files {
+        put_pairs(&mut table, file)?;
     }
-    Ok(kept)
+    Ok(table)
 }
 
-/// How many keys come before this one.
-fn place_of(pairs: &[Pair], key: &[u8]) -> usize
-    requires { AreRising pairs.now }
-    ensures place { result ≡ keys_below key.now pairs.now }
-    ensures within { result ≤ length pairs.now }
+fn put_pairs(table: &mut BTreeMap<Blob, Blob>, file: &LoadedFile) -> Result<(), AllocError>
+    ensures { OnOk result (Leaves (file_in file.now) table.old table.new) }
 {
-    let mut low = 0;
-    let mut high = pairs.len();
-    while low < high {
-        let middle = low + (high - low) / 2;
-        if is_below(pairs[middle].key.as_slice(), key) {
-            low = middle + 1;
-        } else {
-            high = middle;
-        }
+    for pair in file.body.pairs.as_slice() {
+        put_pair(table, file, pair)?;
     }
-    low
+    Ok(())
 }
 
-/// Whether the pair at a place, if there is one, is that of the key.
-fn is_at(pairs: &[Pair], place: usize, key: &[u8]) -> bool
-    ensures { result ≡ is_of key.now (slice_get pairs.now place) }
+fn put_pair(
+    table: &mut BTreeMap<Blob, Blob>,
+    file: &LoadedFile,
+    pair: &Pair,
+) -> Result<(), AllocError>
+    ensures { OnOk result (Leaves (λ key old. if holds (loaded.range_of file.now) pair.now.key then (if is_same pair.now.key key then Some pair.now.value else old) else old) table.old table.new) }
 {
-    match pairs.get(place) {
-        Some(pair) => is_same(pair.key.as_slice(), key),
-        None => false,
+    let key = pair.key.as_slice();
+    if is_below(key, file.body.begin.as_slice()) || !is_below(key, file.body.end.as_slice()) {
+        return Ok(());
     }
+    let value = pair.value.copy()?;
+    put(table, &pair.key, value)
 }
 
 /// The value of a key.
-pub(crate) fn value<'a>(pairs: &'a [Pair], key: &[u8]) -> Option<&'a [u8]>
-    requires { AreRising pairs.now }
-    ensures { option_map (λ value. value.now) result ≡ value_of pairs.now key.now }
+pub(crate) fn value<'a>(table: &'a BTreeMap<Blob, Blob>, key: &Blob) -> Option<&'a [u8]>
+    ensures { option_copied result ≡ found table.now key.now }
 {
-    let place = place_of(pairs, key);
-    if !is_at(pairs, place, key) {
-        return None;
+    match table.get(key) {
+        Some(value) => Some(value.as_slice()),
+        None => None,
     }
-    Some(pairs[place].value.as_slice())
 }
 
 /// Gives a key a value, or takes its value away.
 pub(crate) fn write(
-    pairs: &mut Vec<Pair>,
-    key: &[u8],
+    table: &mut BTreeMap<Blob, Blob>,
+    key: &Blob,
     value: Option<Blob>,
 ) -> Result<(), AllocError>
-    requires { AreRising pairs.old.items }
-    ensures { OnOk result (pairs.new.items ≡ written key.now value pairs.old.items) }
+    ensures { OnOk result (Leaves (λ at old. if is_same key.now at then value else old) table.old table.new) }
 {
     match value {
-        Some(value) => put(pairs, key, value),
+        Some(value) => put(table, key, value),
         None => {
-            take_out(pairs, key);
+            table.remove(key);
             Ok(())
         }
     }
 }
 
-fn put(pairs: &mut Vec<Pair>, key: &[u8], value: Blob) -> Result<(), AllocError>
-    requires { AreRising pairs.old.items }
-    ensures { OnOk result (pairs.new.items ≡ written key.now (Some value) pairs.old.items) }
+fn put(table: &mut BTreeMap<Blob, Blob>, key: &Blob, value: Blob) -> Result<(), AllocError>
+    ensures { OnOk result (Leaves (λ at old. if is_same key.now at then Some value else old) table.old table.new) }
 {
-    let place = place_of(pairs, key);
-    if is_at(pairs, place, key) {
-        pairs[place].value = value;
-        return Ok(());
-    }
-    let key = Blob::from_slice(*pairs.allocator(), key)?;
-    pairs.insert(place, Pair { key, value })?;
+    let key = key.copy()?;
+    table.insert(key, value)?;
     Ok(())
 }
 
-fn take_out(pairs: &mut Vec<Pair>, key: &[u8])
-    requires { AreRising pairs.old.items }
-    ensures { pairs.new.items ≡ written key.now None pairs.old.items }
-{
-    let place = place_of(pairs, key);
-    if is_at(pairs, place, key) {
-        pairs.remove(place);
-    }
-}
-
 /// Takes the values of the keys of a range away.
-pub(crate) fn clear(pairs: &mut Vec<Pair>, begin: &[u8], end: &[u8])
-    requires { AreRising pairs.old.items }
-    ensures { pairs.new.items ≡ outside (record { begin = begin.now; end = end.now }) pairs.old.items }
+pub(crate) fn clear(
+    table: &mut BTreeMap<Blob, Blob>,
+    begin: &Blob,
+    end: &Blob,
+) -> Result<(), AllocError>
+    ensures { OnOk result (Leaves (λ key old. if holds (range_of begin.now end.now) key then None else old) table.old table.new) }
 {
-    let first = place_of(pairs, begin);
-    let last = place_of(pairs, end);
-    if first < last {
-        cut(pairs, first, last);
+    while let Some(key) = first_in(table, begin, end)? {
+        table.remove(&key);
+    }
+    Ok(())
+}
+
+// The first key of a range that has a value.
+fn first_in(
+    table: &BTreeMap<Blob, Blob>,
+    begin: &Blob,
+    end: &Blob,
+) -> Result<Option<Blob>, AllocError>
+    ensures { IfOk result (λ first. MatchOption first
+        ((key : Bytes) → holds (range_of begin.now end.now) key ≡ true → found table.now key ≡ None)
+        (λ key. (holds (range_of begin.now end.now) key ≡ true) × IsSome (found table.now key))) }
+{
+    if !is_below(begin.as_slice(), end.as_slice()) {
+        return Ok(None);
+    }
+    match table.range(begin..end).next() {
+        Some((key, _)) => {
+            let key = key.copy()?;
+            Ok(Some(key))
+        }
+        None => Ok(None),
     }
 }
 
-/// Takes out what stands at the places from `first` on and before `last`.
-fn cut(pairs: &mut Vec<Pair>, first: usize, last: usize)
-    requires ordered { first ≤ last }
-    requires within { last ≤ length pairs.old.items }
-    ensures { pairs.new.items ≡ take first pairs.old.items ++ drop last pairs.old.items }
+/// The pairs of a table.
+pub(crate) fn pairs_of(alloc: Global, table: BTreeMap<Blob, Blob>) -> Result<Pairs, AllocError>
+    ensures { IfOk result (λ pairs. (key : Bytes) → value_of pairs key ≡ found table key) }
 {
-    let count = last - first;
-    let rest = pairs.len() - count;
-    pairs[first..].rotate_left(count);
-    pairs.truncate(rest);
+    let mut pairs = Vec::with_capacity(alloc, table.len())?;
+    for (key, value) in table {
+        pairs.push(Pair { key, value })?;
+    }
+    Ok(Pairs::from_vec(pairs))
 }

@@ -1,13 +1,8 @@
-use Rattle.std.proofs.Common.{◌≡◌, true, drop}
+use Rattle.std.proofs.Common.{◌≡◌, drop}
 use Rattle.fb_bytes.specs.Bytes.{Bytes}
-use Rattle.fb_bytes.specs.Keys.{holds}
-use Rattle.fb_bytes.specs.Pairs.{value_of}
-use Rattle.mutations.specs.Effects.{effects}
-use Rattle.restore_apply.specs.Edits.{ArePairsOf}
+use Rattle.restore_apply.specs.Pieces.{since, is_older, effects_if}
+use Rattle.restore_apply.specs.Tables.{found}
 use Rattle.restore_apply.proofs.replay.make_all.Given as goal
 
 abbrev pub invariant-loop-mutation : goal.invariant-loop-mutation
-invariant-loop-mutation l = record {
-  pairs : ArePairsOf l.range l.pairs.items;
-  rest : (key : Bytes) → holds l.range key ≡ true → effects l.limit (drop l.mutation-index l.mutations) key (value_of l.pairs.items key) ≡ effects l.limit l.mutations key (value_of l.initial.pairs.items key);
-}
+invariant-loop-mutation l = (key : Bytes) → effects_if (is_older (since l.pieces key) l.batch.version) l.limit (drop l.mutation-index l.mutation-items) key (found l.table key) ≡ effects_if (is_older (since l.pieces key) l.batch.version) l.limit l.mutation-items key (found l.initial.table key)
