@@ -132,26 +132,6 @@ impl HandJob {
         self.snapshot = snapshot;
     }
 
-    /// The job with a piece more, which was dumped at this version into the file. This one stays as it
-    /// is, for the case that the file is refused.
-    pub fn with_dump(&self, piece: &KeyRange, now: u64, file: Done) -> Result<HandJob, MapFault>
-        requires { is_backwards piece.now ≡ false }
-        ensures ok { OnOk result (fault_of self.now.map piece.now ≡ None) }
-        ensures err { IfErr result (λ fault. (fault ≡ MapFault.NoMemory) ⊎ (fault_of self.now.map piece.now ≡ Some fault)) }
-        ensures dumped { IfOk result (λ job. job ≡ spec.dumped self.now piece.now now file) }
-    {
-        let snapshot = self.snapshot_at(now);
-        let mut map = self.map.copy()?;
-        map.done(piece.copy()?, file)?;
-        Ok(HandJob {
-            map,
-            begin: self.begin,
-            next: self.next,
-            snapshot,
-            aborted: self.aborted,
-        })
-    }
-
     /// The manifest of the present snapshot, once its pieces tile the ranges.
     pub fn manifest(&self) -> Result<Manifest, MapFault>
         ensures ok { IfOk result (λ manifest. (gap self.now.map ≡ None) × (manifest ≡ manifest_of self.now.map.noted)) }
@@ -181,19 +161,5 @@ impl HandJob {
         ensures { self.new ≡ spec.aborted_job self.old }
     {
         self.aborted = true;
-    }
-
-    /// An equal job with memory of its own.
-    pub fn copy(&self) -> Result<Self, AllocError>
-        ensures { IfOk result (λ job. job ≡ self.now) }
-    {
-        let map = self.map.copy()?;
-        Ok(HandJob {
-            map,
-            begin: self.begin,
-            next: self.next,
-            snapshot: self.snapshot,
-            aborted: self.aborted,
-        })
     }
 }

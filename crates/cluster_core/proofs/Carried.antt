@@ -28,6 +28,10 @@ use Rattle.cluster_core.specs.declared.refusal.Refusal.TheVariants.{ContainerInU
 use Rattle.database.specs.declared.SystemFault.TheVariants as system
 use Rattle.cluster_core.specs.declared.event.Event.{Event}
 use Rattle.cluster_core.specs.declared.event.Event.TheVariants as events
+use Rattle.cluster_core.specs.declared.change.Change.{Change}
+use Rattle.cluster_core.specs.declared.change.Change.TheVariants as changes
+use Rattle.cluster_core.specs.Filed.{changed}
+use Rattle.cluster_core.specs.Plans.{files as files_put}
 use Rattle.cluster_core.specs.declared.plan.Filing.{Filing}
 use Rattle.cluster_core.specs.declared.plan.Plan.TheVariants as plans
 use Rattle.cluster_core.specs.Jobs.{Job, is_on, with_log_of, logs_from, logs_of}
@@ -85,39 +89,45 @@ ticket_left w whole bytes after luck t = ap (λ (b : Bool). cond b (moved (Err N
         go true e = let m = ltb-true a b e in absurd (omega arith)
         go false e = e
 
+-- nothing of a job's log differs by a file
+like_changed : (change : Change) (job : Job) → IsLike job (changed change job)
+like_changed (changes.Dump piece now file) job = record { side = refl; ranges = refl; begin = refl; aborted = refl }
+like_changed (changes.Cut now) job = record { side = refl; ranges = refl; begin = refl; aborted = refl }
+like_changed changes.Seal job = record { side = refl; ranges = refl; begin = refl; aborted = refl }
+
 -- what a step with a put comes to
-pub put_step : (p : Workload) (w : State) (filing : Filing) (luck : Luck) → is_starved luck ≡ false → IsPlan p w (plans.Put filing) → IsSafe w (plans.Put filing) → step p w events.Command luck ≡ puts w filing.whole filing.bytes (with_job filing.place filing.job w) luck
+pub put_step : (p : Workload) (w : State) (filing : Filing) (luck : Luck) → is_starved luck ≡ false → IsPlan p w (plans.Put filing) → (safe : IsSafe w (plans.Put filing)) → step p w events.Command luck ≡ puts w filing.whole filing.bytes (with_job filing.place (changed filing.change safe.job) w) luck
 put_step p w filing luck l plan safe =
-    ap (λ (b : Bool). cond b (moved (Err NoMemory) w) (operate p w luck)) l ∙ plan luck ∙ ticket_left w filing.whole filing.bytes (with_job filing.place filing.job w) luck safe.0
+    ap (λ (b : Bool). cond b (moved (Err NoMemory) w) (operate p w luck)) l ∙ plan luck ∙ ap (files_put w filing luck) safe.at ∙ ticket_left w filing.whole filing.bytes (with_job filing.place (changed filing.change safe.job) w) luck safe.tickets
 
 sound_step : (p : Workload) (w : State) (luck : Luck) (m : Moved) → Sound p w → step p w events.Command luck ≡ m → Sound p m.state
 sound_step p w luck m h e = subst (λ (x : Moved). Sound p x.state) e (luck_keeps known p w events.Command luck h)
 
-pub put_world : (p : Workload) (src dst : Database) (v : Versions) (w : State) (filing : Filing) (place : ℕ) (files : Option (List File)) → IsWorld p src dst v w → IsPlan p w (plans.Put filing) → IsSafe w (plans.Put filing) → place ≡ w.place + 1 → files ≡ with_put filing.whole filing.bytes w.files → IsWorld p src dst v (record w { jobs = slice_set w.jobs filing.place filing.job; place = place; tickets = w.tickets + 1; files = files })
+pub put_world : (p : Workload) (src dst : Database) (v : Versions) (w : State) (filing : Filing) (place : ℕ) (files : Option (List File)) → IsWorld p src dst v w → IsPlan p w (plans.Put filing) → (safe : IsSafe w (plans.Put filing)) → place ≡ w.place + 1 → files ≡ with_put filing.whole filing.bytes w.files → IsWorld p src dst v (record w { jobs = slice_set w.jobs filing.place (changed filing.change safe.job); place = place; tickets = w.tickets + 1; files = files })
 put_world p src dst v w filing place files h plan safe e f =
-    subst (λ (n : ℕ). IsWorld p src dst v (record w { jobs = slice_set w.jobs filing.place filing.job; place = n; tickets = w.tickets + 1; files = files })) (sym e)
-    (subst (λ (fs : Option (List File)). IsWorld p src dst v (record w { jobs = slice_set w.jobs filing.place filing.job; place = w.place + 1; tickets = w.tickets + 1; files = fs })) (sym f)
+    subst (λ (n : ℕ). IsWorld p src dst v (record w { jobs = slice_set w.jobs filing.place (changed filing.change safe.job); place = n; tickets = w.tickets + 1; files = files })) (sym e)
+    (subst (λ (fs : Option (List File)). IsWorld p src dst v (record w { jobs = slice_set w.jobs filing.place (changed filing.change safe.job); place = w.place + 1; tickets = w.tickets + 1; files = fs })) (sym f)
     (record {
       src_block = h.src_block;
       dst_block = h.dst_block;
       pace = h.pace;
-      src_logs = h.src_logs ∙ sym (logs_like Src 1 w.jobs filing.place safe.1.0 filing.job safe.1.1 safe.1.2);
-      dst_logs = h.dst_logs ∙ sym (logs_like Dst 1 w.jobs filing.place safe.1.0 filing.job safe.1.1 safe.1.2);
+      src_logs = h.src_logs ∙ sym (logs_like Src 1 w.jobs filing.place safe.job (changed filing.change safe.job) safe.at (like_changed filing.change safe.job));
+      dst_logs = h.dst_logs ∙ sym (logs_like Dst 1 w.jobs filing.place safe.job (changed filing.change safe.job) safe.at (like_changed filing.change safe.job));
       sound = sound_step p w (Fine []) _ h.sound (put_step p w filing (Fine []) refl plan safe);
     }))
 
-pub put_done : (p : Workload) (w : State) (filing : Filing) (place : ℕ) (files : Option (List File)) → IsPlan p w (plans.Put filing) → IsSafe w (plans.Put filing) → place ≡ w.place + 1 → files ≡ with_put filing.whole filing.bytes w.files → step p w events.Command (Fine []) ≡ moved (Ok (answers.Placed filing.whole)) (record w { jobs = slice_set w.jobs filing.place filing.job; place = place; tickets = w.tickets + 1; files = files })
+pub put_done : (p : Workload) (w : State) (filing : Filing) (place : ℕ) (files : Option (List File)) → IsPlan p w (plans.Put filing) → (safe : IsSafe w (plans.Put filing)) → place ≡ w.place + 1 → files ≡ with_put filing.whole filing.bytes w.files → step p w events.Command (Fine []) ≡ moved (Ok (answers.Placed filing.whole)) (record w { jobs = slice_set w.jobs filing.place (changed filing.change safe.job); place = place; tickets = w.tickets + 1; files = files })
 put_done p w filing place files plan safe e f =
     put_step p w filing (Fine []) refl plan safe
-    ∙ ap (λ (fs : Option (List File)). moved (Ok (answers.Placed filing.whole)) (record w { jobs = slice_set w.jobs filing.place filing.job; place = w.place + 1; tickets = w.tickets + 1; files = fs })) (sym f)
-    ∙ ap (λ (n : ℕ). moved (Ok (answers.Placed filing.whole)) (record w { jobs = slice_set w.jobs filing.place filing.job; place = n; tickets = w.tickets + 1; files = files })) (sym e)
+    ∙ ap (λ (fs : Option (List File)). moved (Ok (answers.Placed filing.whole)) (record w { jobs = slice_set w.jobs filing.place (changed filing.change safe.job); place = w.place + 1; tickets = w.tickets + 1; files = fs })) (sym f)
+    ∙ ap (λ (n : ℕ). moved (Ok (answers.Placed filing.whole)) (record w { jobs = slice_set w.jobs filing.place (changed filing.change safe.job); place = n; tickets = w.tickets + 1; files = files })) (sym e)
 
 -- a put that failed
-pub failed_step : (p : Workload) (w : State) (filing : Filing) (files : Option (List File)) → IsPlan p w (plans.Put filing) → IsSafe w (plans.Put filing) → (files ≡ w.files) ⊎ (files ≡ with_put filing.whole filing.bytes w.files) → (luck : Luck) × (step p w events.Command luck ≡ moved (Err VaultFault) (record w { files = files }))
+pub failed_step : (p : Workload) (w : State) (filing : Filing) (files : Option (List File)) → IsPlan p w (plans.Put filing) → (safe : IsSafe w (plans.Put filing)) → (files ≡ w.files) ⊎ (files ≡ with_put filing.whole filing.bytes w.files) → (luck : Luck) × (step p w events.Command luck ≡ moved (Err VaultFault) (record w { files = files }))
 failed_step p w filing files plan safe (inl e) = (FailsOld, put_step p w filing FailsOld refl plan safe ∙ ap (λ (fs : Option (List File)). moved (Err VaultFault) (record w { files = fs })) (sym e))
 failed_step p w filing files plan safe (inr e) = (FailsNew, put_step p w filing FailsNew refl plan safe ∙ ap (λ (fs : Option (List File)). moved (Err VaultFault) (record w { files = fs })) (sym e))
 
-pub failed_world : (p : Workload) (src dst : Database) (v : Versions) (w : State) (filing : Filing) (files : Option (List File)) → IsWorld p src dst v w → IsPlan p w (plans.Put filing) → IsSafe w (plans.Put filing) → (files ≡ w.files) ⊎ (files ≡ with_put filing.whole filing.bytes w.files) → IsWorld p src dst v (record w { files = files })
+pub failed_world : (p : Workload) (src dst : Database) (v : Versions) (w : State) (filing : Filing) (files : Option (List File)) → IsWorld p src dst v w → IsPlan p w (plans.Put filing) → (safe : IsSafe w (plans.Put filing)) → (files ≡ w.files) ⊎ (files ≡ with_put filing.whole filing.bytes w.files) → IsWorld p src dst v (record w { files = files })
 failed_world p src dst v w filing files h plan safe o =
     let s = failed_step p w filing files plan safe o in
     record { src_block = h.src_block; dst_block = h.dst_block; pace = h.pace; src_logs = h.src_logs; dst_logs = h.dst_logs; sound = sound_step p w s.0 (moved (Err VaultFault) (record w { files = files })) h.sound s.1 }
@@ -420,7 +430,7 @@ pub abort_room : (p : Workload) (w : State) (place : ℕ) → IsPlan p w (plans.
 abort_room p w place plan safe = has_room p w (λ e. let q = ap (λ (m : Moved). m.answer) (sym (nothing_left p w FailsOld e) ∙ plan FailsOld ∙ ap (aborts w place) safe.1) in cc)
 
 pub put_room : (p : Workload) (w : State) (filing : Filing) → IsPlan p w (plans.Put filing) → IsSafe w (plans.Put filing) → w.place < length p.operator
-put_room p w filing plan safe = has_room p w (λ e. let q = ap (λ (m : Moved). m.answer) (sym (nothing_left p w FailsOld e) ∙ plan FailsOld ∙ ticket_left w filing.whole filing.bytes (with_job filing.place filing.job w) FailsOld safe.0) in cc)
+put_room p w filing plan safe = has_room p w (λ e. let q = ap (λ (m : Moved). m.answer) (sym (nothing_left p w FailsOld e) ∙ plan FailsOld ∙ ap (files_put w filing FailsOld) safe.at ∙ ticket_left w filing.whole filing.bytes (with_job filing.place (changed filing.change safe.job) w) FailsOld safe.tickets) in cc)
 
 -- ---- each event
 

@@ -23,7 +23,9 @@ use Rattle.workload_text.specs.declared.Workload.{Workload}
 use Rattle.database.specs.declared.JobLog.{JobLog}
 use Rattle.database.specs.Logs.{log_of}
 use Rattle.database.specs.Commits.{most_version}
-use Rattle.backup_core.specs.Hand.{HandJob, sealed, text_of}
+use Rattle.backup_core.specs.Hand.{HandJob, text_of}
+use Rattle.cluster_core.specs.declared.change.Change.TheVariants as changes
+use Rattle.cluster_core.specs.Plans.{files}
 use Rattle.cluster_core.specs.declared.plan.Filing.{Filing}
 use Rattle.cluster_core.specs.declared.plan.Plan.TheVariants.{Put}
 use Rattle.cluster_core.specs.declared.refusal.Refusal.TheVariants.{NothingNew, Untiled}
@@ -31,7 +33,7 @@ use Rattle.cluster_core.specs.Jobs.{Job, is_on, logs_from, logs_of}
 use Rattle.cluster_core.specs.State.{State, history_on}
 use Rattle.cluster_core.specs.declared.event.StepFault.TheVariants.{NoMemory}
 use Rattle.cluster_core.specs.Moves.{moved, Luck}
-use Rattle.cluster_core.specs.Commands.{refuses, cut_bytes, cut_name, with_cut, cut_put, cut_log, seal_name, with_seal, seal_fitting, snapshot_bytes, seal_tested, seal_job}
+use Rattle.cluster_core.specs.Commands.{refuses, cut_bytes, cut_name, cut_put, cut_log, seal_name, seal_fitting, snapshot_bytes, seal_tested, seal_job}
 use Rattle.cluster_core.specs.Plans.{planned, IsSafe}
 use Rattle.cluster_core.specs.Sound.{IsNoted, Sound}
 use Rattle.cluster_core.proofs.Entries.{All-weaker}
@@ -131,19 +133,20 @@ cut_refused s w place found job version next e n l t at luck =
     ∙ ap (λ (k : ℕ). refuses (NothingNew k) w) (sym t)
 
 abbrev pub cut_filing : Settings → State → ℕ → Job → Filing
-cut_filing s w place job = record { place = place; job = with_cut w job; whole = whole_name job.container (cut_name s w job); bytes = cut_bytes s w job }
+cut_filing s w place job = record { place = place; change = changes.Cut w.time; whole = whole_name job.container (cut_name s w job); bytes = cut_bytes s w job }
 
 pub cut_planned : (s : Settings) (w : State) (place : ℕ) (found job : Job) (version next : ℕ) (filing : Filing) → found ≡ slice_index_or w.jobs place found → next ≡ found.hand.next → next ≤ version → version ≡ w.time → filing ≡ cut_filing s w place found → slice_get w.jobs place ≡ Some job → (luck : Luck) → cut_log s w luck (record { place = place; job = job }) ≡ planned s w luck (Put filing)
 cut_planned s w place found job version next filing e n l t f at luck =
     let same : next ≡ job.hand.next = n ∙ ap (λ (x : Job). x.hand.next) (same_job w.jobs place job found at e) in
     ap (λ (b : Bool). cond b (refuses (NothingNew w.time) w) (cut_put s w luck (record { place = place; job = job }))) (le-ltb w.time job.hand.next (omega arith))
+    ∙ sym (ap (files w (cut_filing s w place job) luck) at)
     ∙ ap (λ (x : Job). planned s w luck (Put (cut_filing s w place x))) (sym (same_job w.jobs place job found at e))
     ∙ ap (λ (x : Filing). planned s w luck (Put x)) (sym f)
 
-pub cut_safe : (s : Settings) (w : State) (place : ℕ) (found job : Job) (filing : Filing) → found ≡ slice_index_or w.jobs place found → slice_get w.jobs place ≡ Some job → filing ≡ cut_filing s w place found → w.tickets ≤ most_version → IsSafe w (Put filing)
-cut_safe s w place found job filing e at f t =
+pub cut_safe : (s : Settings) (w : State) (place : ℕ) (found job : Job) (filing : Filing) → found ≡ slice_index_or w.jobs place found → slice_get w.jobs place ≡ Some job → filing ≡ cut_filing s w place found → w.tickets ≤ most_version → w.time ≤ most_version → IsSafe w (Put filing)
+cut_safe s w place found job filing e at f t b =
     subst (λ (x : Filing). IsSafe w (Put x)) (sym f)
-    (t, (found, found_there w.jobs place job found at e, record { side = refl; ranges = refl; begin = refl; aborted = refl }))
+    (record { tickets = t; can = omega arith; job = job; at = at })
 
 -- ---- a seal
 
@@ -174,22 +177,22 @@ seal_refused w place found job hand fault key e h r f at luck =
     (ap (λ (x : Job). gap x.hand.map) (sym (same_job w.jobs place job found at e)) ∙ ap (λ (x : HandJob). gap x.map) (sym h) ∙ untiled (gap hand.map) fault key f r)
 
 abbrev pub seal_filing : State → ℕ → Job → Filing
-seal_filing w place job = record { place = place; job = with_seal job; whole = whole_name job.container (seal_name w job); bytes = manifest_text (manifest_of job.hand.map.noted) }
+seal_filing w place job = record { place = place; change = changes.Seal; whole = whole_name job.container (seal_name w job); bytes = manifest_text (manifest_of job.hand.map.noted) }
 
-pub seal_filed : (w : State) (place : ℕ) (job : Job) (m : Manifest) (hand copied old : HandJob) (name bytes : Bytes) → m ≡ manifest_of job.hand.map.noted → hand ≡ sealed copied → copied ≡ old → old ≡ job.hand → name ≡ text_of (name_for m w.tickets) → bytes ≡ manifest_text m → record { place = place; job = record job { hand = hand }; whole = whole_name job.container name; bytes = bytes } ≡ seal_filing w place job
-seal_filed w place job m hand copied old name bytes e h c o n b =
-    ap {A = HandJob} {B = Filing} (λ (x : HandJob). record { place = place; job = record job { hand = x }; whole = whole_name job.container name; bytes = bytes }) (h ∙ ap sealed (c ∙ o))
-    ∙ ap {A = Bytes} {B = Filing} (λ (x : Bytes). record { place = place; job = with_seal job; whole = whole_name job.container x; bytes = bytes }) (n ∙ ap (λ (x : Manifest). text_of (name_for x w.tickets)) e)
-    ∙ ap {A = Bytes} {B = Filing} (λ (x : Bytes). record { place = place; job = with_seal job; whole = whole_name job.container (seal_name w job); bytes = x }) (b ∙ ap manifest_text e)
+pub seal_filed : (w : State) (place : ℕ) (job : Job) (m : Manifest) (name bytes : Bytes) → m ≡ manifest_of job.hand.map.noted → name ≡ text_of (name_for m w.tickets) → bytes ≡ manifest_text m → record { place = place; change = changes.Seal; whole = whole_name job.container name; bytes = bytes } ≡ seal_filing w place job
+seal_filed w place job m name bytes e n b =
+    ap {A = Bytes} {B = Filing} (λ (x : Bytes). record { place = place; change = changes.Seal; whole = whole_name job.container x; bytes = bytes }) (n ∙ ap (λ (x : Manifest). text_of (name_for x w.tickets)) e)
+    ∙ ap {A = Bytes} {B = Filing} (λ (x : Bytes). record { place = place; change = changes.Seal; whole = whole_name job.container (seal_name w job); bytes = x }) (b ∙ ap manifest_text e)
 
 pub seal_planned : (s : Settings) (w : State) (place : ℕ) (found job : Job) (filing : Filing) → found ≡ slice_index_or w.jobs place found → gap found.hand.map ≡ None → snapshot_bytes found ≤ most_bytes → filing ≡ seal_filing w place found → slice_get w.jobs place ≡ Some job → (luck : Luck) → seal_job w luck (record { place = place; job = job }) ≡ planned s w luck (Put filing)
 seal_planned s w place found job filing e g b f at luck =
     ap (seal_tested w (record { place = place; job = job }) luck) (ap (λ (x : Job). gap x.hand.map) (sym (same_job w.jobs place job found at e)) ∙ g)
     ∙ ap (λ (t : Bool). cond t (moved (Err NoMemory) w) (seal_fitting w (record { place = place; job = job }) luck)) (ap (λ (x : Job). nat_lt most_bytes (snapshot_bytes x)) (sym (same_job w.jobs place job found at e)) ∙ le-ltb most_bytes (snapshot_bytes found) b)
+    ∙ sym (ap (files w (seal_filing w place job) luck) at)
     ∙ ap (λ (x : Job). planned s w luck (Put (seal_filing w place x))) (sym (same_job w.jobs place job found at e))
     ∙ ap (λ (x : Filing). planned s w luck (Put x)) (sym f)
 
 pub seal_safe : (w : State) (place : ℕ) (found job : Job) (filing : Filing) → found ≡ slice_index_or w.jobs place found → slice_get w.jobs place ≡ Some job → filing ≡ seal_filing w place found → w.tickets ≤ most_version → IsSafe w (Put filing)
 seal_safe w place found job filing e at f t =
     subst (λ (x : Filing). IsSafe w (Put x)) (sym f)
-    (t, (found, found_there w.jobs place job found at e, record { side = refl; ranges = refl; begin = refl; aborted = refl }))
+    (record { tickets = t; can = tt; job = job; at = at })

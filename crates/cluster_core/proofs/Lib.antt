@@ -21,3 +21,4 @@ mod Carried
 mod Planned
 mod Cuts
 pub mod LeastKeys
+mod Filings

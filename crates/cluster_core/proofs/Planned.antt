@@ -5,6 +5,8 @@ use Rattle.std.proofs.Common.{ap, sym, ◌∙◌, subst, get_or}
 use Rattle.fb_bytes.specs.Bytes.{Bytes}
 use Rattle.fb_bytes.specs.declared.KeyRange.{KeyRange}
 use Rattle.fb_bytes.specs.declared.Pair.{Pair}
+use Rattle.fb_bytes.specs.Keys.{is_backwards}
+use Rattle.database.specs.Commits.{most_version}
 use Rattle.block_frame.specs.Profiles.{key_limit_of}
 use Rattle.mutations.specs.declared.Entry.{Entry}
 use Rattle.range_files.specs.Writing.{IsWritable}
@@ -16,14 +18,17 @@ use Rattle.database.specs.Dumps.{pairs_at}
 use Rattle.container_view.specs.Files.{whole_name}
 use Rattle.snapshot_plan.specs.Noted.{pieces_of, unless_inside, fault_of}
 use Rattle.snapshot_plan.specs.Pieces.{outside, overlap}
-use Rattle.backup_core.specs.Hand.{HandJob, range_name, text_of, dumped}
+use Rattle.backup_core.specs.Hand.{HandJob, range_name, text_of}
+use Rattle.cluster_core.specs.declared.change.Change.{Change}
+use Rattle.cluster_core.specs.declared.change.Change.TheVariants as changes
+use Rattle.cluster_core.specs.Filed.{dump_change}
 use Rattle.cluster_core.specs.declared.plan.Filing.{Filing}
 use Rattle.cluster_core.specs.declared.plan.Plan.TheVariants.{Put}
 use Rattle.cluster_core.specs.declared.plan.Running.TheVariants.{At}
 use Rattle.cluster_core.specs.Jobs.{Job, Found, newest}
 use Rattle.cluster_core.specs.Moves.{Luck}
-use Rattle.cluster_core.specs.Commands.{piece_bytes, dump_bytes, dump_name, with_dump, dump_put, dump_tested, dump_piece}
-use Rattle.cluster_core.specs.Plans.{planned, IsPlanAt, IsRunning}
+use Rattle.cluster_core.specs.Commands.{piece_bytes, dump_bytes, dump_name, dump_put, dump_tested, dump_piece}
+use Rattle.cluster_core.specs.Plans.{files, planned, IsPlanAt, IsSafe, IsRunning}
 use Rattle.cluster_core.specs.State.{State, history_on}
 use Rattle.cluster_core.specs.Sound.{Sound}
 use Rattle.cluster_core.specs.World.{Seen}
@@ -90,23 +95,22 @@ dump_begun p w seen place job hand h e at i =
     subst (λ (x : HandJob). x.snapshot ≤ seen.state.time) (sym i)
     (subst (λ (v : State). slice_get v.jobs place ≡ Some job → job.hand.snapshot ≤ v.time) e (λ a. (h.jobs place job a).snapshot) at)
 
--- the file of a job that becomes another one by it
-abbrev pub filing_of : ℕ → Job → HandJob → Bytes → Bytes → Filing
-filing_of place job hand name bytes = record { place = place; job = record job { hand = hand }; whole = whole_name job.container name; bytes = bytes }
+-- the file of a job that changes by it
+abbrev pub filing_of : ℕ → Job → Change → Bytes → Bytes → Filing
+filing_of place job change name bytes = record { place = place; change = change; whole = whole_name job.container name; bytes = bytes }
 
-pub dump_filed : (seen : Seen) (result : Result Filing AllocError) (place : ℕ) (job : Job) (piece : KeyRange) (first second hand : HandJob) (name copied bytes : Bytes) (side : Side) (now size : ℕ) → IfOk result (λ filing. filing ≡ filing_of place job hand name bytes) → first ≡ job.hand → second ≡ job.hand → name ≡ text_of (range_name first seen.state.time seen.state.tickets seen.workload.settings.block) → copied ≡ name → side ≡ job.side → bytes ≡ piece_bytes seen.workload.settings seen.state side piece → now ≡ seen.state.time → size ≡ length bytes → hand ≡ dumped second piece now (record { name = copied; version = now; bytes = size }) → IfOk result (λ filing. filing ≡ filing_of place job (with_dump seen.workload.settings seen.state job piece).hand (dump_name seen.workload.settings seen.state job) (dump_bytes seen.workload.settings seen.state job piece))
-dump_filed seen result place job piece first second hand name copied bytes side now size filed f s n c d b t l h =
+pub dump_filed : (seen : Seen) (result : Result Filing AllocError) (place : ℕ) (job : Job) (piece kept : KeyRange) (first : HandJob) (name copied bytes : Bytes) (side : Side) (now size : ℕ) → IfOk result (λ filing. filing ≡ filing_of place job (changes.Dump kept now (record { name = copied; version = now; bytes = size })) name bytes) → first ≡ job.hand → name ≡ text_of (range_name first seen.state.time seen.state.tickets seen.workload.settings.block) → copied ≡ name → side ≡ job.side → bytes ≡ piece_bytes seen.workload.settings seen.state side piece → now ≡ seen.state.time → size ≡ length bytes → kept ≡ piece → IfOk result (λ filing. filing ≡ filing_of place job (dump_change seen.workload.settings seen.state job piece) (dump_name seen.workload.settings seen.state job) (dump_bytes seen.workload.settings seen.state job piece))
+dump_filed seen result place job piece kept first name copied bytes side now size filed f n c d b t l k =
     let named : name ≡ dump_name seen.workload.settings seen.state job = n ∙ ap (λ (x : HandJob). text_of (range_name x seen.state.time seen.state.tickets seen.workload.settings.block)) f in
     let written : bytes ≡ dump_bytes seen.workload.settings seen.state job piece = b ∙ ap (λ (x : Side). piece_bytes seen.workload.settings seen.state x piece) d in
-    let after : hand ≡ (with_dump seen.workload.settings seen.state job piece).hand =
-    h
-    ∙ ap (λ (x : HandJob). dumped x piece now (record { name = copied; version = now; bytes = size })) s
-    ∙ ap (λ (x : ℕ). dumped job.hand piece x (record { name = copied; version = x; bytes = size })) t
-    ∙ ap (λ (x : Bytes). dumped job.hand piece seen.state.time (record { name = x; version = seen.state.time; bytes = size })) (c ∙ named)
-    ∙ ap (λ (x : ℕ). dumped job.hand piece seen.state.time (record { name = dump_name seen.workload.settings seen.state job; version = seen.state.time; bytes = x })) (l ∙ ap length written) in
-    subst (λ (x : HandJob). IfOk result (λ filing. filing ≡ filing_of place job x (dump_name seen.workload.settings seen.state job) (dump_bytes seen.workload.settings seen.state job piece))) after
-    (subst (λ (x : Bytes). IfOk result (λ filing. filing ≡ filing_of place job hand x (dump_bytes seen.workload.settings seen.state job piece))) named
-    (subst (λ (x : Bytes). IfOk result (λ filing. filing ≡ filing_of place job hand name x)) written filed))
+    let after : changes.Dump kept now (record { name = copied; version = now; bytes = size }) ≡ dump_change seen.workload.settings seen.state job piece =
+    ap (λ (x : KeyRange). changes.Dump x now (record { name = copied; version = now; bytes = size })) k
+    ∙ ap (λ (x : ℕ). changes.Dump piece x (record { name = copied; version = x; bytes = size })) t
+    ∙ ap (λ (x : Bytes). changes.Dump piece seen.state.time (record { name = x; version = seen.state.time; bytes = size })) (c ∙ named)
+    ∙ ap (λ (x : ℕ). changes.Dump piece seen.state.time (record { name = dump_name seen.workload.settings seen.state job; version = seen.state.time; bytes = x })) (l ∙ ap length written) in
+    subst (λ (x : Change). IfOk result (λ filing. filing ≡ filing_of place job x (dump_name seen.workload.settings seen.state job) (dump_bytes seen.workload.settings seen.state job piece))) after
+    (subst (λ (x : Bytes). IfOk result (λ filing. filing ≡ filing_of place job (changes.Dump kept now (record { name = copied; version = now; bytes = size })) x (dump_bytes seen.workload.settings seen.state job piece))) named
+    (subst (λ (x : Bytes). IfOk result (λ filing. filing ≡ filing_of place job (changes.Dump kept now (record { name = copied; version = now; bytes = size })) name x)) written filed))
 
 dump_untested : (s : Settings) (w : State) (found : Found) (piece : KeyRange) (luck : Luck) (out held : Option Bytes) → unless_inside out held ≡ None → dump_tested s w found piece luck out held ≡ dump_put s w found piece luck
 dump_untested s w found piece luck (Some key) held e = cc
@@ -114,8 +118,14 @@ dump_untested s w found piece luck None (Some key) e = cc
 dump_untested s w found piece luck None None e = refl
 
 -- a piece that may be noted is put
-pub dump_planned : (s : Settings) (w : State) (place : ℕ) (here : Job) (hand : HandJob) (piece : KeyRange) (filing : Filing) → slice_get w.jobs place ≡ Some here → hand ≡ here.hand → fault_of hand.map piece ≡ None → filing ≡ record { place = place; job = with_dump s w here piece; whole = whole_name here.container (dump_name s w here); bytes = dump_bytes s w here piece } → (job : Job) → slice_get w.jobs place ≡ Some job → IsPlanAt s w (dump_piece s w piece) (record { place = place; job = job }) (Put filing)
+pub dump_planned : (s : Settings) (w : State) (place : ℕ) (here : Job) (hand : HandJob) (piece : KeyRange) (filing : Filing) → slice_get w.jobs place ≡ Some here → hand ≡ here.hand → fault_of hand.map piece ≡ None → filing ≡ filing_of place here (dump_change s w here piece) (dump_name s w here) (dump_bytes s w here piece) → (job : Job) → slice_get w.jobs place ≡ Some job → IsPlanAt s w (dump_piece s w piece) (record { place = place; job = job }) (Put filing)
 dump_planned s w place here hand piece filing at h fits file job there =
     subst (λ (x : Job). IsPlanAt s w (dump_piece s w piece) (record { place = place; job = x }) (Put filing)) (some_is here job (sym at ∙ there))
     (λ luck. dump_untested s w (record { place = place; job = here }) piece luck (outside here.hand.map.ranges piece) (overlap (pieces_of here.hand.map.noted) piece) (ap (λ (x : HandJob). fault_of x.map piece) (sym h) ∙ fits)
+    ∙ sym (ap (files w (filing_of place here (dump_change s w here piece) (dump_name s w here) (dump_bytes s w here piece)) luck) at)
     ∙ ap (λ (x : Filing). planned s w luck (Put x)) (sym file))
+
+pub dump_safe : (s : Settings) (w : State) (place : ℕ) (here : Job) (piece : KeyRange) (filing : Filing) → slice_get w.jobs place ≡ Some here → is_backwards piece ≡ false → filing ≡ filing_of place here (dump_change s w here piece) (dump_name s w here) (dump_bytes s w here piece) → w.tickets ≤ most_version → IsSafe w (Put filing)
+dump_safe s w place here piece filing at forward file t =
+    subst (λ (x : Filing). IsSafe w (Put x)) (sym file)
+    (record { tickets = t; can = forward; job = here; at = at })

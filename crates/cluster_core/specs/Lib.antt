@@ -9,3 +9,4 @@ pub mod Elsewhere
 pub mod Laws
 pub mod World
 pub mod LeastKeys
+pub mod Filed

@@ -6,6 +6,7 @@ use Rattle.workload_text.specs.declared.Settings.{Settings}
 use Rattle.workload_text.specs.declared.Workload.{Workload}
 use Rattle.database.specs.Commits.{most_version}
 use Rattle.cluster_core.specs.declared.event.Answer.TheVariants as answers
+use Rattle.cluster_core.specs.declared.plan.Filing.{Filing}
 use Rattle.cluster_core.specs.declared.plan.Plan.{Plan}
 use Rattle.cluster_core.specs.declared.plan.Plan.TheVariants.{Nothing, Refuse, Tell, Put, Abort}
 use Rattle.cluster_core.specs.declared.plan.Plan.TheVariants.{Open}
@@ -16,6 +17,7 @@ use Rattle.cluster_core.specs.State.{State, with_job}
 use Rattle.cluster_core.specs.Moves.{Luck, Moved, moved}
 use Rattle.cluster_core.specs.Commands.{gone_on, refuses, done, putting, with_abort, open_listed}
 use Rattle.cluster_core.specs.Commands.{on_job, command_gives}
+use Rattle.cluster_core.specs.Filed.{changed, CanChange}
 use Rattle.cluster_core.specs.Step.{operate}
 
 -- the job at a place is aborted, where there is one
@@ -23,13 +25,20 @@ abbrev pub aborts : State → ℕ → Option Job → Moved
 aborts state place None = moved (Ok answers.Nothing) state
 aborts state place (Some job) = done (with_job place (with_abort job) state)
 
+-- a file is put for the job at a place, where there is one
+abbrev pub files : State → Filing → Luck → Option Job → Moved
+files state filing luck None = moved (Ok answers.Nothing) state
+files state filing luck (Some job) =
+    putting state filing.whole filing.bytes
+    (with_job filing.place (changed filing.change job) state) luck
+
 -- what a plan gives, by what the outside does
 abbrev pub planned : Settings → State → Luck → Plan → Moved
 planned settings state luck Nothing = moved (Ok answers.Nothing) state
 planned settings state luck (Refuse refusal) = refuses refusal state
 planned settings state luck (Tell told) = moved (Ok (answers.State told)) (gone_on state)
 planned settings state luck (Put filing) =
-    putting state filing.whole filing.bytes (with_job filing.place filing.job state) luck
+    files state filing luck (slice_get state.jobs filing.place)
 planned settings state luck (Abort place) = aborts state place (slice_get state.jobs place)
 planned settings state luck (Open tag side container ranges) =
     open_listed settings state tag side container ranges luck
@@ -51,15 +60,19 @@ pub record IsLike (old new : Job) : Type 0 where
   pub begin : new.hand.begin ≡ old.hand.begin
   pub aborted : new.hand.aborted ≡ old.hand.aborted
 
--- what is known of a plan: a file that is put is of a job that is there, and a ticket is left for
--- it; a job that is aborted is there
+-- a file that is put is of a job that is there and may change so, and a ticket is left for it
+pub record IsFiling (state : State) (filing : Filing) : Type 0 where
+  pub tickets : state.tickets ≤ most_version
+  pub can : CanChange filing.change
+  pub job : Job
+  pub at : slice_get state.jobs filing.place ≡ Some job
+
+-- what is known of a plan: a job that is aborted is there
 abbrev pub IsSafe : State → Plan → Type 0
 IsSafe state Nothing = Unit {0}
 IsSafe state (Refuse refusal) = Unit {0}
 IsSafe state (Tell told) = Unit {0}
-IsSafe state (Put filing) =
-    (state.tickets ≤ most_version)
-    × ((job : Job) × (slice_get state.jobs filing.place ≡ Some job) × IsLike job filing.job)
+IsSafe state (Put filing) = IsFiling state filing
 IsSafe state (Abort place) = (job : Job) × (slice_get state.jobs place ≡ Some job)
 IsSafe state (Open tag side container ranges) = Unit {0}
 

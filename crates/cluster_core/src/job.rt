@@ -1,10 +1,12 @@
 //! The jobs of a run.
 
-ghost use Rattle.std.specs.Prelude.{◌≡◌, ℕ, map, length, option_map, IfOk};
+ghost use Rattle.std.specs.Prelude.{◌≡◌, ℕ, map, length, option_map, IfOk, OnOk, OnErr};
 ghost use Rattle.backup_core.specs.Hand.{aborted_job};
+ghost use Rattle.cluster_core.specs.Filed.{CanChange, ahead, settled, taken_back};
 ghost use Rattle.cluster_core.specs.Jobs as spec;
 
 use crate::JobState;
+use crate::change::Change;
 use backup_core::HandJob;
 use fb_bytes::{Ranges, Text, is_same};
 use std::alloc::AllocError;
@@ -85,13 +87,48 @@ impl Job {
         &self.hand
     }
 
-    /// The same job with another state of its kind, in memory of its own.
-    pub(crate) fn with_hand(&self, hand: HandJob) -> Result<Job, AllocError>
-        ensures { IfOk result (λ job. job ≡ record self.now { hand = hand }) }
+    /// What takes memory of a change is made. It answers the number that the job's snapshot had.
+    pub(crate) fn go_ahead(&mut self, change: &Change) -> Result<u64, AllocError>
+        requires { CanChange change.now }
+        ensures before { IfOk result (λ snapshot. snapshot ≡ self.old.hand.snapshot) }
+        ensures ok { OnOk result (self.new ≡ ahead change.now self.old) }
+        ensures err { OnErr result (self.new ≡ self.old) }
     {
-        let tag = self.tag.copy()?;
-        let container = self.container.copy()?;
-        Ok(Job::new(tag, self.side, container, hand))
+        let snapshot = self.hand.snapshot();
+        match change {
+            Change::Dump { piece, now, file } => {
+                let piece = piece.copy()?;
+                let file = file.copy()?;
+                match self.hand.dump(piece, *now, file) {
+                    Ok(()) => Ok(snapshot),
+                    Err(_) => Err(AllocError),
+                }
+            }
+            Change::Cut { .. } | Change::Seal => Ok(snapshot),
+        }
+    }
+
+    /// The rest of a change. It takes no memory.
+    pub(crate) fn settle(&mut self, change: &Change)
+        requires { CanChange change.now }
+        ensures { self.new ≡ settled change.now self.old }
+    {
+        match change {
+            Change::Dump { .. } => {}
+            Change::Cut { now } => self.hand.cut_to(*now),
+            Change::Seal => self.hand.seal(),
+        }
+    }
+
+    /// Takes back what was made of a change, before which the snapshot had this number. It takes no
+    /// memory.
+    pub(crate) fn take_back(&mut self, change: &Change, snapshot: u64)
+        ensures { self.new ≡ taken_back change.now snapshot self.old }
+    {
+        match change {
+            Change::Dump { piece, .. } => self.hand.take_back(piece.begin.as_slice(), snapshot),
+            Change::Cut { .. } | Change::Seal => {}
+        }
     }
 
     /// It takes no memory.

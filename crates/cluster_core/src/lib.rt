@@ -1,6 +1,7 @@
 //! The world: two databases, their clients and the file store, stepped by events.
 #![tactic(auto)]
 
+mod change;
 mod clients;
 mod event;
 mod job;

@@ -1,15 +1,16 @@
 //! What a step of the operator comes to, before anything is changed.
 
-use crate::{Job, JobState, Refusal};
+use crate::change::Change;
+use crate::{JobState, Refusal};
 use fb_bytes::{Blob, Ranges, Text};
 use workload_text::Side;
 
-/// A file that is to be put for a job, and the job once it was put.
+/// A file that is to be put for a job, and how the job changes by it.
 #[derive(Debug, Drop)]
 pub struct Filing {
     /// The job's place among the jobs.
     pub place: usize,
-    pub job: Job,
+    pub change: Change,
     /// The file's name, its container's folder included.
     pub whole: Text,
     pub bytes: Blob,

@@ -9,13 +9,16 @@ ghost use Rattle.snapshot_plan.specs.Noted.{gap, manifest_of, most_bytes};
 ghost use Rattle.workload_text.specs.Commands.{IsCommand, IsPiece};
 ghost use Rattle.database.specs.Commits.{most_version};
 ghost use Rattle.backup_core.specs.Hand.{text_of, range_name, log_name, manifest_name};
+ghost use Rattle.cluster_core.specs.declared.change.Change.TheVariants as changes;
 ghost use Rattle.cluster_core.specs.declared.plan.Filing.{Filing};
+ghost use Rattle.cluster_core.specs.Filed as filed;
 ghost use Rattle.cluster_core.specs.Jobs as jobs;
 ghost use Rattle.cluster_core.specs.State.{history_on};
 ghost use Rattle.cluster_core.specs.Moves.{Luck};
 ghost use Rattle.cluster_core.specs.Commands as commands;
 ghost use Rattle.cluster_core.specs.Plans.{planned, IsPlan, IsPlanOf, IsPlanAt, IsSafe, IsRunning};
 
+use crate::change::Change;
 use crate::job::{newest, started_in};
 use crate::plan::{Filing, Plan, Running};
 use crate::{Job, JobState, Refusal, World};
@@ -179,7 +182,7 @@ impl<V: Vault> World<V> {
     fn dump(&self, place: usize, job: &Job, piece: &KeyRange) -> Result<Filing, AllocError>
         requires at { slice_get self.now.state.jobs place ≡ Some job.now }
         requires piece { IsPiece (key_limit_of self.now.workload.settings.block) piece.now }
-        ensures file { IfOk result (λ filing. filing ≡ record { place = place; job = commands.with_dump self.now.workload.settings self.now.state job.now piece.now; whole = files.whole_name job.now.container (commands.dump_name self.now.workload.settings self.now.state job.now); bytes = commands.dump_bytes self.now.workload.settings self.now.state job.now piece.now }) }
+        ensures file { IfOk result (λ filing. filing ≡ record { place = place; change = filed.dump_change self.now.workload.settings self.now.state job.now piece.now; whole = files.whole_name job.now.container (commands.dump_name self.now.workload.settings self.now.state job.now); bytes = commands.dump_bytes self.now.workload.settings self.now.state job.now piece.now }) }
         ensures drawn { IfOk result (λ _. self.now.state.tickets ≤ most_version) }
     {
         let _sound = &self.workload;
@@ -190,10 +193,12 @@ impl<V: Vault> World<V> {
             version: self.versions.now,
             bytes: bytes.len() as u64,
         };
-        let Ok(hand) = job.hand().with_dump(piece, self.versions.now, file) else {
-            return Err(AllocError);
+        let change = Change::Dump {
+            piece: piece.copy()?,
+            now: self.versions.now,
+            file,
         };
-        self.filing(place, job, hand, &name, bytes)
+        self.filing(place, job, change, &name, bytes)
     }
 
     // The name of a range file of the newest version.
@@ -244,22 +249,21 @@ impl<V: Vault> World<V> {
         }
     }
 
-    // The file of a job that becomes another one by it.
+    // The file of a job that changes by it.
     fn filing(
         &self,
         place: usize,
         job: &Job,
-        hand: HandJob,
+        change: Change,
         name: &Text,
         bytes: Blob,
     ) -> Result<Filing, AllocError>
-        ensures { IfOk result (λ filing. filing ≡ record { place = place; job = record job.now { hand = hand }; whole = files.whole_name job.now.container name.now; bytes = bytes }) }
+        ensures { IfOk result (λ filing. filing ≡ record { place = place; change = change; whole = files.whole_name job.now.container name.now; bytes = bytes }) }
     {
         let whole = whole_name(self.alloc, job.container(), name.as_str())?;
-        let job = job.with_hand(hand)?;
         Ok(Filing {
             place,
-            job,
+            change,
             whole,
             bytes,
         })
@@ -284,14 +288,15 @@ impl<V: Vault> World<V> {
         requires at { slice_get self.now.state.jobs place ≡ Some job.now }
         requires running { job.now.hand.aborted ≡ false }
         requires some { job.now.hand.next ≤ self.now.state.time }
-        ensures file { IfOk result (λ filing. filing ≡ record { place = place; job = commands.with_cut self.now.state job.now; whole = files.whole_name job.now.container (commands.cut_name self.now.workload.settings self.now.state job.now); bytes = commands.cut_bytes self.now.workload.settings self.now.state job.now }) }
+        ensures file { IfOk result (λ filing. filing ≡ record { place = place; change = changes.Cut self.now.state.time; whole = files.whole_name job.now.container (commands.cut_name self.now.workload.settings self.now.state job.now); bytes = commands.cut_bytes self.now.workload.settings self.now.state job.now }) }
         ensures drawn { IfOk result (λ _. self.now.state.tickets ≤ most_version) }
     {
         let name = self.log_name(job.hand())?;
         let bytes = self.log_bytes(place, job)?;
-        let mut hand = job.hand().copy()?;
-        hand.cut_to(self.versions.now);
-        self.filing(place, job, hand, &name, bytes)
+        let change = Change::Cut {
+            now: self.versions.now,
+        };
+        self.filing(place, job, change, &name, bytes)
     }
 
     // The name of a log file that ends past the newest version.
@@ -350,14 +355,12 @@ impl<V: Vault> World<V> {
         requires tiled { gap job.now.hand.map ≡ None }
         requires manifest { manifest.now ≡ manifest_of job.now.hand.map.noted }
         requires fits { manifest.now.bytes ≤ most_bytes }
-        ensures file { IfOk result (λ filing. filing ≡ record { place = place; job = commands.with_seal job.now; whole = files.whole_name job.now.container (commands.seal_name self.now.state job.now); bytes = manifest_text (manifest_of job.now.hand.map.noted) }) }
+        ensures file { IfOk result (λ filing. filing ≡ record { place = place; change = changes.Seal; whole = files.whole_name job.now.container (commands.seal_name self.now.state job.now); bytes = manifest_text (manifest_of job.now.hand.map.noted) }) }
         ensures drawn { IfOk result (λ _. self.now.state.tickets ≤ most_version) }
     {
         let bytes = manifests::write(self.alloc, manifest)?;
         let name = self.manifest_name(manifest)?;
-        let mut hand = job.hand().copy()?;
-        hand.seal();
-        self.filing(place, job, hand, &name, bytes)
+        self.filing(place, job, Change::Seal, &name, bytes)
     }
 
     // The name of a manifest.

@@ -12,6 +12,7 @@ ghost use Rattle.cluster_core.specs.Plans.{IsPlan, IsSafe};
 ghost use Rattle.cluster_core.specs.Sound.{Sound};
 ghost use Rattle.cluster_core.specs.World.{CommitSteps, OperatorSteps, IsListed, IsFirstName};
 
+use crate::change::{go_ahead, settle, take_back};
 use crate::clients::{begin_client, commit_client, new_clients};
 use crate::logging::{begin_log, end_log};
 use crate::plan::{Filing, Plan};
@@ -289,18 +290,25 @@ impl<V: Vault> World<V> {
         ensures faults { Counts self.old.faults self.new.faults
             (IsErrOf result StepFault.VaultFault) }
     {
+        let snapshot = go_ahead(&mut self.jobs, filing.place, &filing.change)?;
         match self
             .vault
             .put(self.alloc, &filing.whole, filing.bytes.as_slice())
         {
             Ok(()) => {
-                self.jobs[filing.place] = filing.job;
+                settle(&mut self.jobs, filing.place, &filing.change);
                 self.tickets += 1;
                 self.place = next_place(self.place, self.workload.operator.len());
                 Ok(Answer::Placed { name: filing.whole })
             }
-            Err(VaultFail::Failed) => Err(StepFault::VaultFault),
-            Err(VaultFail::NoMemory) => Err(StepFault::NoMemory),
+            Err(VaultFail::Failed) => {
+                take_back(&mut self.jobs, filing.place, &filing.change, snapshot);
+                Err(StepFault::VaultFault)
+            }
+            Err(VaultFail::NoMemory) => {
+                take_back(&mut self.jobs, filing.place, &filing.change, snapshot);
+                Err(StepFault::NoMemory)
+            }
         }
     }
 

@@ -1,4 +1,5 @@
-use Rattle.std.proofs.Common.{◌≡◌, ap, ◌∙◌, subst, slice_index_or}
+use Rattle.std.proofs.Common.{◌≡◌, ◌≤◌, ap, ◌∙◌, subst, slice_index_or}
+use Rattle.database.specs.Commits.{most_version}
 use Rattle.backup_core.specs.Hand.{HandJob}
 use Rattle.cluster_core.specs.World.{Seen}
 use Rattle.cluster_core.proofs.Cuts.{found_there, found_runs, cut_refused, cut_planned, cut_safe}
@@ -30,4 +31,4 @@ pub returns-clause-safe : goal.returns-clause-safe
 returns-clause-safe g c =
     cut_safe c.args.self.now.workload.settings c.args.self.now.state c.args.place c.index-job.result.now c.requires.at.0 c.in_ok-filing.filing
     (subst (λ (seen : Seen). c.index-job.result.now ≡ slice_index_or seen.state.jobs c.args.place c.index-job.result.now) c.self.view_is c.index-job.ensures)
-    c.requires.at.1 c.in_ok-filing.ensures.file c.in_ok-filing.ensures.drawn
+    c.requires.at.1 c.in_ok-filing.ensures.file c.in_ok-filing.ensures.drawn (subst (λ (seen : Seen). seen.state.time ≤ most_version) c.self.view_is c.self.invariant.sound.bound)

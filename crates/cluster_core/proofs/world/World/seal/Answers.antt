@@ -18,4 +18,4 @@ pub manifest_name-requires-clause-bytes : goal.manifest_name-requires-clause-byt
 manifest_name-requires-clause-bytes g c κs within = let fits = c.requires.fits in omega arith
 
 pub returns-clause-file : goal.returns-clause-file
-returns-clause-file g c = subst (λ (f : Filing). IfOk c.filing.result (λ filing. filing ≡ f)) (seal_filed c.args.self.now.state c.args.place c.args.job.now c.args.manifest.now c.seal.new.self c.in_ok-hand.hand c.hand.result.now c.in_ok-name.name c.in_ok-bytes.bytes c.requires.manifest c.seal.ensures c.in_ok-hand.ensures c.hand.ensures c.in_ok-name.ensures.name c.in_ok-bytes.ensures.text) c.filing.ensures
+returns-clause-file g c = subst (λ (f : Filing). IfOk c.filing.result (λ filing. filing ≡ f)) (seal_filed c.args.self.now.state c.args.place c.args.job.now c.args.manifest.now c.in_ok-name.name c.in_ok-bytes.bytes c.requires.manifest c.in_ok-name.ensures.name c.in_ok-bytes.ensures.text) c.filing.ensures
