@@ -36,7 +36,9 @@ word_of CompareAndClear = codes "cac"
 
 -- each operation once
 abbrev pub every_op : List Op
-every_op = Add ∷ And ∷ Or ∷ Xor ∷ AppendIfFits ∷ Max ∷ Min ∷ ByteMin ∷ ByteMax ∷ MinV2 ∷ AndV2 ∷ CompareAndClear ∷ []
+every_op =
+    Add ∷ And ∷ Or ∷ Xor ∷ AppendIfFits ∷ Max ∷ Min ∷ ByteMin ∷ ByteMax ∷ MinV2 ∷ AndV2
+    ∷ CompareAndClear ∷ []
 
 -- the operation of a code, if the code has one
 abbrev pub op_of_code : ℕ → Option Op

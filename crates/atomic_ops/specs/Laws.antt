@@ -37,7 +37,9 @@ FittedLength = (old : Option Bytes) (n : ℕ) → length (fitted old n) ≡ n
 
 -- at each place it has the old byte, or zero where the old string has none
 abbrev pub FittedBytes : Type 0
-FittedBytes = (old : Option Bytes) (n i : ℕ) → i < n → slice_index (fitted old n) i ≡ slice_index (unwrap_or old []) i
+FittedBytes =
+    (old : Option Bytes) (n i : ℕ) → i < n
+    → slice_index (fitted old n) i ≡ slice_index (unwrap_or old []) i
 
 -- ---- bytes as numbers
 
@@ -47,7 +49,8 @@ NumberIsBelow = (bytes : Bytes) → IsBytes bytes → number bytes < 256 ^ lengt
 
 -- strings of one length are the same where their numbers are
 abbrev pub NumberIsUnique : Type 0
-NumberIsUnique = (x y : Bytes) → IsBytes x → IsBytes y → length x ≡ length y → number x ≡ number y → x ≡ y
+NumberIsUnique =
+    (x y : Bytes) → IsBytes x → IsBytes y → length x ≡ length y → number x ≡ number y → x ≡ y
 
 -- numbers of one length compare as their bytes from the last one down
 abbrev pub NumbersCompareFromLast : Type 0
@@ -87,37 +90,50 @@ has_param_length CompareAndClear = false
 
 -- they leave the key there, with a value of that length: an empty one for an empty parameter
 abbrev pub ResultHasParamLength : Type 0
-ResultHasParamLength = (op : Op) (old : Option Bytes) (param : Bytes) (limit : ℕ) → has_param_length op ≡ true
+ResultHasParamLength =
+    (op : Op) (old : Option Bytes) (param : Bytes) (limit : ℕ) → has_param_length op ≡ true
     → IsSomeAnd (operation op old param limit) (λ left. length left ≡ length param)
 
 -- no operation but an append leaves more bytes than the longer of what it is given
 abbrev pub ResultIsNoLonger : Type 0
 ResultIsNoLonger = (op : Op) (old : Option Bytes) (param : Bytes) (limit : ℕ) → op ≢ AppendIfFits
-    → IfSome (operation op old param limit) (λ left. length left ≤ max (length (unwrap_or old [])) (length param))
+    → IfSome (operation op old param limit)
+    (λ left. length left ≤ max (length (unwrap_or old [])) (length param))
 
 -- an append leaves a value, and it goes past the limit only where the old one did
 abbrev pub AppendIsLimited : Type 0
 AppendIsLimited = (old : Option Bytes) (param : Bytes) (limit : ℕ)
-    → IsSomeAnd (operation AppendIfFits old param limit) (λ left. length left ≤ max (length (unwrap_or old [])) limit)
+    → IsSomeAnd (operation AppendIfFits old param limit)
+    (λ left. length left ≤ max (length (unwrap_or old [])) limit)
 
 -- a limit that holds for the old value, the parameter and an append holds for the result
 abbrev pub ResultIsWithin : Type 0
-ResultIsWithin = (op : Op) (old : Option Bytes) (param : Bytes) (limit : ℕ) → length (unwrap_or old []) ≤ limit → length param ≤ limit
+ResultIsWithin =
+    (op : Op) (old : Option Bytes) (param : Bytes) (limit : ℕ) → length (unwrap_or old []) ≤ limit
+    → length param ≤ limit
     → IfSome (operation op old param limit) (λ left. length left ≤ limit)
 
 -- bytes give bytes
 abbrev pub ResultIsBytes : Type 0
-ResultIsBytes = (op : Op) (old : Option Bytes) (param : Bytes) (limit : ℕ) → IsBytes (unwrap_or old []) → IsBytes param
+ResultIsBytes =
+    (op : Op) (old : Option Bytes) (param : Bytes) (limit : ℕ) → IsBytes (unwrap_or old [])
+    → IsBytes param
     → IfSome (operation op old param limit) (λ left. IsBytes left)
 
--- the key is absent after a compare-and-clear of an absent key or of the very parameter, and after nothing else
+-- the key is absent after a compare-and-clear of an absent key or of the very parameter, and after
+-- nothing else
 abbrev pub Clears : Type 0
-Clears = (old : Option Bytes) (param : Bytes) (limit : ℕ) → (old ≡ None) ⊎ (old ≡ Some param) → operation CompareAndClear old param limit ≡ None
+Clears =
+    (old : Option Bytes) (param : Bytes) (limit : ℕ) → (old ≡ None) ⊎ (old ≡ Some param)
+    → operation CompareAndClear old param limit ≡ None
 
 abbrev pub OnlyClears : Type 0
-OnlyClears = (op : Op) (old : Option Bytes) (param : Bytes) (limit : ℕ) → operation op old param limit ≡ None
+OnlyClears =
+    (op : Op) (old : Option Bytes) (param : Bytes) (limit : ℕ) → operation op old param limit ≡ None
     → (op ≡ CompareAndClear) × ((old ≡ None) ⊎ (old ≡ Some param))
 
 -- an absent key counts as an empty value, which an append that doesn't fit leaves there
 abbrev pub AppendThatNeverFits : Type 0
-AppendThatNeverFits = (param : Bytes) (limit : ℕ) → limit < length param → operation AppendIfFits None param limit ≡ Some []
+AppendThatNeverFits =
+    (param : Bytes) (limit : ℕ) → limit < length param
+    → operation AppendIfFits None param limit ≡ Some []

@@ -1,9 +1,10 @@
 -- What a writer holds after an item, in each of the three cases.
-use Rattle.std.proofs.Common.{◌≡◌, ℕ, ◌+◌, ◌-◌, ◌<◌, ◌≤◌, true, false, eqb, leb, ◌++◌, length, take, drop, replicate, refl, sym, ap, ◌∙◌, append_assoc, arith}
+use Rattle.std.proofs.Common.{◌≡◌, ℕ, ◌+◌, ◌-◌, ◌<◌, ◌≤◌, true, false, eqb, leb, [], ◌++◌, length, take, drop, replicate, refl, sym, ap, ◌∙◌, append_assoc, arith, rules}
 use Rattle.std.proofs.lemmas.Bool.{eq-eqb, ne_eqb, le-leb, lt-leb}
 use Rattle.std.proofs.lemmas.List.{append-nil, length-append, length-drop, length-replicate, take-append-le, drop-append-le, take_all, take_at, drop_at, take-append-drop}
 use Rattle.fb_bytes.specs.Bytes.{Bytes}
-use Rattle.block_frame.specs.Frames.{Frames, framed, begun, padded}
+use Rattle.block_frame.specs.Frames.{Frames, no_frames, framed, begun, padded}
+use Rattle.block_frame.specs.Profiles.{is_block, IsRoomy}
 
 -- the bytes cut where the present block begins
 abbrev pub cut : ℕ → Bytes → Frames
@@ -40,3 +41,22 @@ item_goes_on block format start room at bytes new item repeat within short some 
     let left_over : block - length (drop start bytes) ≡ room = omega arith in
     let whole : take start bytes ++ padded block (drop start bytes) ≡ bytes ++ replicate room 255 = sym (append_assoc (take start bytes) (drop start bytes) (replicate (block - length (drop start bytes)) 255)) ∙ rw (take-append-drop start bytes, left_over) refl in
     left ∙ rw (test, no_room, whole) refl
+
+-- ---- the three cases of a writer's step
+
+pub framed_first : (size format : ℕ) (item repeat : Bytes) → framed size format no_frames item repeat ≡ record { full = []; present = begun format repeat item }
+unfolding framed
+framed_first size format item repeat = refl
+
+pub framed_fits : (size format : ℕ) (frames : Frames) (item repeat : Bytes) → 0 < length frames.present → length frames.present + length item ≤ size → framed size format frames item repeat ≡ record { full = frames.full; present = frames.present ++ item }
+unfolding framed
+framed_fits size format frames item repeat some room = rw (ne_eqb (length frames.present) 0 (λ e. omega arith), le-leb (length frames.present + length item) size room) refl
+
+pub framed_begins : (size format : ℕ) (frames : Frames) (item repeat : Bytes) → 0 < length frames.present → size < length frames.present + length item → framed size format frames item repeat ≡ record { full = frames.full ++ padded size frames.present; present = begun format repeat item }
+unfolding framed
+framed_begins size format frames item repeat some full = rw (ne_eqb (length frames.present) 0 (λ e. omega arith), lt-leb (length frames.present + length item) size full) refl
+
+-- ---- room
+
+pub roomy : (size : ℕ) → is_block size ≡ true → IsRoomy size
+roomy size listed = search rules

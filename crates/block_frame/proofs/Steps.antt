@@ -1,6 +1,6 @@
 -- Steps of a reading that may meet a fault.
-use Rattle.std.proofs.Common.{◌≡◌, Bool, true, false, cond, Option, Some, None, Result, Ok, Err, refl, sym, ◌∙◌, inl, inr}
-use Rattle.fb_bytes.specs.Results.{found_or, FailsBut}
+use Rattle.std.proofs.Common.{◌≡◌, ℕ, zero, suc, ◌<◌, Bool, true, false, cond, Option, Some, None, Result, Ok, Err, refl, sym, ◌∙◌, arith, inl, inr}
+use Rattle.fb_bytes.specs.Results.{found_or, ok_side, FailsBut}
 
 pub found_or_ok : {A E : Type 0} (fault : E) (o : Option A) (x : A) → found_or fault o ≡ Ok x → o ≡ Some x
 found_or_ok fault (Some y) x e = cc
@@ -18,3 +18,12 @@ ok_is x y (Err d) p q = absurd cc
 pub fails_on : {A B E : Type 0} (no_memory fault : E) (r : Result A E) (total : Result B E) → (r ≡ Err fault → total ≡ Err fault) → FailsBut no_memory fault r → FailsBut no_memory fault total
 fails_on no_memory fault r total h (inl memory) = inl memory
 fails_on no_memory fault r total h (inr met) = inr (h met)
+
+pub ok_from_side : {A E : Type 0} (r : Result A E) (x : A) → ok_side r ≡ Some x → r ≡ Ok x
+ok_from_side (Ok y) x e = cc
+ok_from_side (Err f) x e = absurd cc
+
+-- fuel that is enough is never used up
+pub fuel_is : (n fuel : ℕ) → n < fuel → (less : ℕ) × (fuel ≡ suc less)
+fuel_is n zero lt = absurd (omega arith)
+fuel_is n (suc less) lt = (less, refl)

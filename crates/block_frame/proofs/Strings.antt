@@ -126,3 +126,6 @@ header_size bytes x e =
     let made : ℕ × Bytes = (from_le_bytes w32 a.0.0, a.0.1) in
     let is : made ≡ x = cc in
     subst (λ (y : ℕ × Bytes). 4 + length y.1 ≡ length bytes) is (omega (arith, ap length s.parts, length-append a.0.0 a.0.1, s.len))
+
+pub string-length : (s : Bytes) → length (string s) ≡ 4 + length s
+string-length s = omega arith

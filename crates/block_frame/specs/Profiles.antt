@@ -42,8 +42,8 @@ limit_of block = field_of (λ row. row.value) (row_of block)
 abbrev pub part_of : ℕ → ℕ
 part_of block = field_of (λ row. row.part) (row_of block)
 
--- a block has room for what its writers put into it at once: a header, three keys and two values, each
--- with its length; and a header and a whole record of a log
+-- a block has room for what its writers put into it at once: a header, three keys and two values,
+-- each with its length; and a header and a whole record of a log
 pub record HasRoom (row : Row) : Type 0 where
   pub pairs : 4 + 3 * (4 + row.key) + 2 * (4 + row.value) ≤ row.block
   pub record' : 24 + row.part ≤ row.block

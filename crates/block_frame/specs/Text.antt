@@ -41,4 +41,5 @@ unpadded_at bytes = position (λ byte. not (byte == 255)) bytes
 -- the block at an index, where the bytes go so far
 abbrev pub block_of : Bytes → ℕ → ℕ → Option Bytes
 block_of bytes block index =
-    if nat_lt (index * block) (length bytes) then Some (take block (drop (index * block) bytes)) else None
+    if nat_lt (index * block) (length bytes) then Some (take block (drop (index * block) bytes))
+    else None

@@ -9,6 +9,7 @@ pub record SpelledName : Type 0 where
   -- the name is read from its spelling
   pub read : (text : Bytes) (name : Name) → IsNameOf text name → name_of text ≡ name
   -- what is read from a text is spelled so
-  pub spelled : (text : Bytes) (name : Name) → name_of text ≡ name → is_other name ≡ false → IsNameOf text name
+  pub spelled : (text : Bytes) (name : Name) → name_of text ≡ name → is_other name ≡ false
+      → IsNameOf text name
   -- no spelling is empty
   pub some : (text : Bytes) (name : Name) → IsNameOf text name → 0 < length text

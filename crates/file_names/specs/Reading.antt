@@ -11,7 +11,8 @@ use Rattle.file_names.specs.Spelling.{is_number, range_texts, log_texts, manifes
 
 -- what stands behind a text that the bytes begin with
 unfoldable pub after : Bytes → Bytes → Option Bytes
-after text bytes = if is_same (take (length text) bytes) text then Some (drop (length text) bytes) else None
+after text bytes =
+    if is_same (take (length text) bytes) text then Some (drop (length text) bytes) else None
 
 -- the number that digits write, behind those of n
 abbrev pub value_after : ℕ → Bytes → ℕ
@@ -31,7 +32,9 @@ behind_digits bytes = drop (prefix_len is_ascii_digit bytes) bytes
 
 -- the number that digits write, where they are written as in names
 unfoldable pub number_of : Bytes → Option ℕ
-number_of digits = if nat_lt 0 (length digits) && is_plain digits && is_number (value_after 0 digits) then Some (value_after 0 digits) else None
+number_of digits =
+    if nat_lt 0 (length digits) && is_plain digits && is_number (value_after 0 digits)
+    then Some (value_after 0 digits) else None
 
 -- the number in front, with all its digits, and what stands behind it
 unfoldable pub number_at : Bytes → Option (ℕ × Bytes)
@@ -50,15 +53,20 @@ numbers_in (text ∷ texts) bytes = do
   Some (n.0 ∷ ns)
 
 abbrev pub range_from : List ℕ → Option Name
-range_from (snapshot ∷ group ∷ version ∷ ticket ∷ block ∷ []) = if group == ticket / 1000 && is_block block then Some (Range snapshot version ticket block) else None
+range_from (snapshot ∷ group ∷ version ∷ ticket ∷ block ∷ []) =
+    if group == ticket / 1000 && is_block block then Some (Range snapshot version ticket block)
+    else None
 range_from _ = None
 
 abbrev pub log_from : List ℕ → Option Name
-log_from (group ∷ begin ∷ end ∷ ticket ∷ block ∷ []) = if group == begin / 1000000000 && is_block block && nat_lt begin end then Some (Log begin end ticket block) else None
+log_from (group ∷ begin ∷ end ∷ ticket ∷ block ∷ []) =
+    if group == begin / 1000000000 && is_block block && nat_lt begin end
+    then Some (Log begin end ticket block) else None
 log_from _ = None
 
 abbrev pub manifest_from : List ℕ → Option Name
-manifest_from (begin ∷ end ∷ bytes ∷ ticket ∷ []) = if nat_le begin end then Some (Manifest begin end bytes ticket) else None
+manifest_from (begin ∷ end ∷ bytes ∷ ticket ∷ []) =
+    if nat_le begin end then Some (Manifest begin end bytes ticket) else None
 manifest_from _ = None
 
 unfoldable pub range_of : Bytes → Option Name
@@ -71,7 +79,9 @@ unfoldable pub manifest_of : Bytes → Option Name
 manifest_of text = numbers_in manifest_texts text >>= manifest_from
 
 unfoldable pub property_of : Bytes → Option Name
-property_of text = if is_same text unreliable_text then Some Unreliable else if is_same text expired_text then Some Expired else None
+property_of text =
+    if is_same text unreliable_text then Some Unreliable
+    else if is_same text expired_text then Some Expired else None
 
 abbrev pub first_of : Option Name → Option Name → Option Name
 first_of None other = other
@@ -83,4 +93,6 @@ or_other (Some name) = name
 
 -- the name that a text spells, or Other
 unfoldable pub name_of : Bytes → Name
-name_of text = or_other (first_of (property_of text) (first_of (range_of text) (first_of (log_of text) (manifest_of text))))
+name_of text =
+    or_other (first_of (property_of text)
+    (first_of (range_of text) (first_of (log_of text) (manifest_of text))))

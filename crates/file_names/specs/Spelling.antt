@@ -42,7 +42,8 @@ expired_text = codes "properties/expired_end"
 
 -- range files stand in folders of a thousand tickets, log files in folders of 10^9 versions
 abbrev pub range_numbers : ℕ → ℕ → ℕ → ℕ → List ℕ
-range_numbers snapshot version ticket block = snapshot ∷ ticket / 1000 ∷ version ∷ ticket ∷ block ∷ []
+range_numbers snapshot version ticket block =
+    snapshot ∷ ticket / 1000 ∷ version ∷ ticket ∷ block ∷ []
 
 abbrev pub log_numbers : ℕ → ℕ → ℕ → ℕ → List ℕ
 log_numbers begin end ticket block = begin / 1000000000 ∷ begin ∷ end ∷ ticket ∷ block ∷ []

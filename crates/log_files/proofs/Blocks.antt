@@ -6,7 +6,7 @@ use Rattle.std.proofs.lemmas.Bool.{eqb-true, cases_lt}
 use Rattle.std.proofs.lemmas.List.{append-nil, length-drop, length-append, map-append, take_all, drop_all, take_at, drop_at, take-append-drop, length-take}
 use Rattle.fb_bytes.specs.Bytes.{Bytes, IsBytes}
 use Rattle.block_frame.specs.Text.{header, string, header_at, string_at, is_over, IsPadding, unpadded_at}
-use Rattle.block_frame.proofs.Strings.{IsBytes-take, IsBytes-drop, header_found, header_again, IsString, string_found, string_again, string_not_over, not_over_short}
+use Rattle.block_frame.proofs.Strings.{string-length, IsBytes-take, IsBytes-drop, header_found, header_again, IsString, string_found, string_again, string_not_over, not_over_short}
 use Rattle.log_files.specs.declared.record.Record.{Record}
 use Rattle.log_files.specs.declared.fault.LogFault.{LogFault}
 use Rattle.log_files.specs.declared.fault.LogFault.TheVariants as faults
@@ -101,9 +101,6 @@ no_fuel t bytes x e = absurd cc
 records_found : (fuel t : ℕ) (bytes : Bytes) (x : List Record × Bytes) → IsBytes bytes → records_at fuel t bytes ≡ Ok x → AreRows bytes x
 records_found zero t bytes x fits e = absurd (no_fuel t bytes x e)
 records_found (suc fuel) t bytes x fits e = found_any fuel t bytes x fits e (λ more y f g. records_found fuel t more y f g) (is_over bytes) refl
-
-string-length : (s : Bytes) → length (string s) ≡ 4 + length s
-string-length s = omega arith
 
 records_again : (fuel t : ℕ) (rows : List Row) (padding : Bytes) → AllByRecursion RowFits rows → is_over padding ≡ true → length (rows_text rows ++ padding) < fuel → (found : List Record) × (bares found ≡ rows) × (records_at fuel t (rows_text rows ++ padding) ≡ Ok (found, padding))
 records_again zero t rows padding fit o lt = absurd (omega arith)

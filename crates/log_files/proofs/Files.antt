@@ -1,5 +1,5 @@
 -- Whole log files.
-use Rattle.std.proofs.Common.{◌≡◌, ℕ, ◌^◌, ◌<◌, List, length, Some, Result, Ok, Err, refl, sym, ap, subst, ◌∙◌, arith, inl, inr}
+use Rattle.std.proofs.Common.{◌≡◌, ℕ, ◌^◌, ◌<◌, List, length, Result, Ok, Err, refl, sym, ap, subst, ◌∙◌, arith, inl, inr}
 use Rattle.std.specs.Prelude.{IfOk, IfErr, MatchResult}
 use Rattle.std.proofs.lemmas.Result.{IfOk-at_ok, IfErr-at_err}
 use Rattle.mutations.specs.declared.LogChunk.{LogChunk}
@@ -11,7 +11,7 @@ use Rattle.log_files.specs.Reading.{Fails, ◌>>=◌, SoFar, nothing_yet, finish
 use Rattle.log_files.specs.Grammar.{LogFile}
 use Rattle.log_files.specs.Laws.{ReadIsLog, LogIsRead, OneLog}
 use Rattle.fb_bytes.proofs.Results.{bind_ok}
-use Rattle.block_frame.proofs.Steps.{ok_is}
+use Rattle.block_frame.proofs.Steps.{ok_is, ok_from_side}
 use Rattle.log_files.proofs.Blocks.{bares, blocks_found, blocks_again}
 use Rattle.log_files.proofs.Batches.{joins_found, spelled_again}
 
@@ -39,10 +39,6 @@ read_again size begin end bytes batches wide high file =
     let g = spelled_again end batches file.rows r.found start start high (nothing_finished begin) (λ version le. refl) file.spelled r.bare-is in
     ap (λ (q : Result SoFar LogFault). (q >>= finished) >>= λ done. Ok done.batches) (r.reads end start)
     ∙ ap (λ (q : Result SoFar LogFault). q >>= λ done. Ok done.batches) g.took ∙ ap (λ (x : List Batch). Ok x) g.batches-are
-
-ok_from_side : {A : Type 0} (r : Result A LogFault) (x : A) → ok_side r ≡ Some x → r ≡ Ok x
-ok_from_side (Ok y) x e = cc
-ok_from_side (Err f) x e = absurd cc
 
 pub read_is_log : ReadIsLog
 read_is_log size begin end bytes batches wide fits e = read_found size begin end bytes batches wide fits (ok_from_side (read size begin end bytes) batches e)

@@ -1,9 +1,9 @@
 -- Records one after the other, as a loop reads them.
-use Rattle.std.proofs.Common.{◌≡◌, ℕ, zero, suc, ◌+◌, ◌-◌, ◌<◌, true, false, List, [], ◌∷◌, ◌++◌, length, Result, Ok, Err, refl, sym, ap, ◌∙◌, append_assoc, arith}
+use Rattle.std.proofs.Common.{◌≡◌, ℕ, suc, ◌+◌, ◌-◌, ◌<◌, true, false, List, [], ◌∷◌, ◌++◌, length, Result, Ok, Err, refl, sym, ap, ◌∙◌, append_assoc, arith}
 use Rattle.std.proofs.lemmas.List.{append-nil}
 use Rattle.fb_bytes.specs.Bytes.{Bytes}
 use Rattle.block_frame.specs.Text.{string_at, is_over}
-use Rattle.block_frame.proofs.Steps.{found_or_ok}
+use Rattle.block_frame.proofs.Steps.{found_or_ok, fuel_is}
 use Rattle.block_frame.proofs.Strings.{string_size}
 use Rattle.log_files.specs.declared.record.Record.{Record}
 use Rattle.log_files.specs.declared.fault.LogFault.{LogFault}
@@ -52,10 +52,6 @@ whole (Err f) = refl
 
 pub rows_begin : (t : ℕ) (bytes : Bytes) → RowsSoFar [] t bytes (records_at (length bytes + 1) t bytes)
 rows_begin t bytes = record { fuel = length bytes + 1; enough = omega arith; same = whole (records_at (length bytes + 1) t bytes) }
-
-fuel_is : (n fuel : ℕ) → n < fuel → (less : ℕ) × (fuel ≡ suc less)
-fuel_is n zero lt = absurd (omega arith)
-fuel_is n (suc less) lt = (less, refl)
 
 regroup : (front : List Record) (row : Record) (reading : Result Rows LogFault) → behind_rows front (reading >>= λ more. Ok (row ∷ more.0, more.1)) ≡ behind_rows (front ++ row ∷ []) reading
 regroup front row (Ok x) = ap (λ (rs : List Record). Ok (rs, x.1)) (sym (append_assoc front (row ∷ []) x.0))

@@ -6,6 +6,7 @@ use Rattle.fb_bytes.specs.Bytes.{Bytes}
 use Rattle.block_frame.specs.Frames.{Frames, no_frames, framed, text}
 use Rattle.mutations.specs.declared.Batch.{Batch}
 use Rattle.mutations.specs.Spelling.{HasSpelling}
+use Rattle.block_frame.proofs.Steps.{fuel_is}
 use Rattle.log_files.specs.Reading.{format}
 use Rattle.log_files.specs.Grammar.{Row, row_key, row_text, rows_of}
 use Rattle.log_files.specs.Writing.{pieces_with, pieces_of, with_rows, with_batches, log_text, AreLogged}
@@ -22,10 +23,6 @@ pub record PartsSoFar (size part : ℕ) (frames : Frames) (version number : ℕ)
 pub parts_begin : (size part : ℕ) (frames : Frames) (version : ℕ) (bytes : Bytes) → PartsSoFar size part frames version 0 bytes (with_rows size frames (rows_of version 0 (pieces_of part bytes)))
 unfolding pieces_of
 parts_begin size part frames version bytes = record { fuel = length bytes + 1; enough = omega arith; same = refl }
-
-fuel_is : (n fuel : ℕ) → n < fuel → (less : ℕ) × (fuel ≡ suc less)
-fuel_is n zero lt = absurd (omega arith)
-fuel_is n (suc less) lt = (less, refl)
 
 pub parts_more : (size part : ℕ) (frames new : Frames) (version number : ℕ) (rest after row again : Bytes) (total : Frames) → 0 < part → part < length rest → row ≡ row_text (row_at version number (take part rest)) → again ≡ [] → new ≡ framed size format frames row again → after ≡ drop part rest
     → PartsSoFar size part frames version number rest total → PartsSoFar size part new version (number + 1) after total

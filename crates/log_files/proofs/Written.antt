@@ -1,7 +1,7 @@
 -- What is written is in the grammar.
 use Rattle.std.proofs.Common.{◌≡◌, ℕ, zero, suc, ◌+◌, ◌-◌, ◌*◌, ◌^◌, ◌<◌, ◌≤◌, Bool, true, false, cond, leb, List, [], ◌∷◌, ◌++◌, length, take, drop, replicate, refl, sym, ap, subst, ◌∙◌, append_assoc, arith, rules, inl, inr}
 use Rattle.std.specs.List.{AllByRecursion}
-use Rattle.std.proofs.lemmas.Bool.{ne_eqb, le-leb, lt-leb, leb-true, leb-false}
+use Rattle.std.proofs.lemmas.Bool.{leb-true, leb-false}
 use Rattle.std.proofs.lemmas.List.{append-nil, length-append, length-replicate, length-take, length-drop, take-append-drop}
 use Rattle.fb_bytes.specs.Bytes.{Bytes}
 use Rattle.fb_bytes.specs.Blocks.{is_block}
@@ -13,24 +13,11 @@ use Rattle.mutations.specs.Spelling.{u32_bytes, u64_bytes, protocol, mutations_s
 use Rattle.mutations.proofs.Lengths.{length-u32_bytes, length-u64_bytes}
 use Rattle.log_files.specs.Reading.{format}
 use Rattle.block_frame.proofs.Padding.{padding_is}
+use Rattle.block_frame.proofs.Frames.{framed_first, framed_fits, framed_begins, roomy}
 use Rattle.log_files.specs.Grammar.{Row, row_key, row_text, rows_text, RowFits, IsLogBlock, LogBlocks, NoBlock, NextBlock, rows_of, joined, Spell, LogFile}
 use Rattle.log_files.specs.Writing.{pieces_with, pieces_of, with_rows, with_batches, log_text, AreLogged, IsWritable}
 use Rattle.log_files.specs.Laws.{WrittenIsLog, WrittenIsRead}
 use Rattle.log_files.proofs.Files.{log_is_read}
-
--- ---- a writer's steps
-
-framed_fits : (size : ℕ) (frames : Frames) (item : Bytes) → 0 < length frames.present → length frames.present + length item ≤ size → framed size format frames item [] ≡ record { full = frames.full; present = frames.present ++ item }
-unfolding framed
-framed_fits size frames item some room = rw (ne_eqb (length frames.present) 0 (λ e. omega arith), le-leb (length frames.present + length item) size room) refl
-
-framed_begins : (size : ℕ) (frames : Frames) (item : Bytes) → 0 < length frames.present → size < length frames.present + length item → framed size format frames item [] ≡ record { full = frames.full ++ padded size frames.present; present = begun format [] item }
-unfolding framed
-framed_begins size frames item some full = rw (ne_eqb (length frames.present) 0 (λ e. omega arith), lt-leb (length frames.present + length item) size full) refl
-
-framed_first : (size : ℕ) (item : Bytes) → framed size format no_frames item [] ≡ record { full = []; present = begun format [] item }
-unfolding framed
-framed_first size item = refl
 
 -- ---- blocks
 
@@ -88,7 +75,7 @@ row_step : (size : ℕ) (full : Bytes) (rows : List Row) (row : Row) (left : Lis
 row_step size full rows row left h room ih true b =
     let small = leb-true _ _ b in
     let split = append_assoc rows (row ∷ []) left in
-    let pushed : framed size format (record { full = full; present = present_text rows }) (row_text row) [] ≡ record { full = full; present = present_text (rows ++ (row ∷ [])) } = framed_fits size (record { full = full; present = present_text rows }) (row_text row) (omega arith) small ∙ ap (λ (x : Bytes). record { full = full; present = x }) (text_push rows row) in
+    let pushed : framed size format (record { full = full; present = present_text rows }) (row_text row) [] ≡ record { full = full; present = present_text (rows ++ (row ∷ [])) } = framed_fits size format (record { full = full; present = present_text rows }) (row_text row) [] (omega arith) small ∙ ap (λ (x : Bytes). record { full = full; present = x }) (text_push rows row) in
     let fits : length (present_text (rows ++ (row ∷ []))) ≤ size = omega (arith, ap length (text_push rows row), length-append (present_text rows) (row_text row)) in
     let w = ih full (rows ++ (row ∷ [])) (subst (AllByRecursion (Fits size)) (sym split) h) fits in
     record { rest = w.rest; parts = ap (λ (f : Frames). text (with_rows size f left)) pushed ∙ w.parts; blocks = subst (LogBlocks size w.rest) split w.blocks }
@@ -99,7 +86,7 @@ row_step size full rows row left h room ih false b =
     let full' = full ++ front in
     let fits : length (present_text (row ∷ [])) ≤ size = omega (arith, own.0.room, length-append (row_text row) []) in
     let w = ih full' (row ∷ []) own fits in
-    let begins : framed size format (record { full = full; present = present_text rows }) (row_text row) [] ≡ record { full = full'; present = present_text (row ∷ []) } = framed_begins size (record { full = full; present = present_text rows }) (row_text row) (omega arith) big ∙ ap (λ (x : Bytes). record { full = full'; present = x }) (text_begun row) in
+    let begins : framed size format (record { full = full; present = present_text rows }) (row_text row) [] ≡ record { full = full'; present = present_text (row ∷ []) } = framed_begins size format (record { full = full; present = present_text rows }) (row_text row) [] (omega arith) big ∙ ap (λ (x : Bytes). record { full = full'; present = x }) (text_begun row) in
     let n = size - length (present_text rows) in
     let whole : length front ≡ size = omega (arith, length-append (present_text rows) (replicate n 255), length-replicate {A = ℕ} n 255) in
     record {
@@ -117,7 +104,7 @@ all_written size [] h = record { rest = []; parts = refl; blocks = NoBlock refl 
 all_written size (row ∷ rows) h =
     let fits : length (present_text (row ∷ [])) ≤ size = omega (arith, h.0.room, length-append (row_text row) []) in
     let w = rows_written size rows [] (row ∷ []) h fits in
-    let first : framed size format no_frames (row_text row) [] ≡ record { full = []; present = present_text (row ∷ []) } = framed_first size (row_text row) ∙ ap (λ (x : Bytes). record { full = []; present = x }) (text_begun row) in
+    let first : framed size format no_frames (row_text row) [] ≡ record { full = []; present = present_text (row ∷ []) } = framed_first size format (row_text row) [] ∙ ap (λ (x : Bytes). record { full = []; present = x }) (text_begun row) in
     record { rest = w.rest; parts = ap (λ (f : Frames). text (with_rows size f rows)) first ∙ w.parts; blocks = w.blocks }
 
 -- ---- pieces
@@ -167,9 +154,6 @@ batches_rows size frames [] = refl
 batches_rows size frames (batch ∷ batches) =
     let rows = rows_of batch.version 0 (pieces_of (part_of size) (batch_spelling batch.muts)) in
     batches_rows size (with_rows size frames rows) batches ∙ sym (with_rows-append size frames rows (rows_in size batches))
-
-roomy : (size : ℕ) → is_block size ≡ true → IsRoomy size
-roomy size listed = search rules
 
 wide_part : (size : ℕ) → is_block size ≡ true → 64 ≤ part_of size
 wide_part size listed = search rules

@@ -33,9 +33,13 @@ pub record IsLogBlock (text : Bytes) (rows : List Row) : Type 0 where
 
 -- the text is cut into blocks of this size, of which the last one may be shorter, with these rows
 pub data LogBlocks : ℕ → Bytes → List Row → Type 0 where
-  NoBlock : {size : ℕ} {text : Bytes} {rows : List Row} → text ≡ [] → rows ≡ [] → LogBlocks size text rows
-  NextBlock : {size : ℕ} {text : Bytes} {rows : List Row} (front rest : Bytes) (first others : List Row) → text ≡ front ++ rest → rows ≡ first ++ others → IsLogBlock front first
-      → (length front ≡ size) ⊎ ((length front ≤ size) × (rest ≡ [])) → LogBlocks size rest others → LogBlocks size text rows
+  NoBlock : {size : ℕ} {text : Bytes} {rows : List Row} → text ≡ [] → rows ≡ []
+      → LogBlocks size text rows
+  NextBlock : {size : ℕ} {text : Bytes} {rows : List Row} (front rest : Bytes)
+      (first others : List Row) → text ≡ front ++ rest → rows ≡ first ++ others
+      → IsLogBlock front first
+      → (length front ≡ size) ⊎ ((length front ≤ size) × (rest ≡ [])) → LogBlocks size rest others
+      → LogBlocks size text rows
 
 -- a version and the number of a part, the high byte first
 abbrev pub row_key : ℕ → ℕ → Bytes
@@ -44,7 +48,8 @@ row_key version part = to_be_bytes w64 version ++ to_be_bytes w32 part
 -- pieces under a version, as parts that are numbered on from a number
 abbrev pub rows_of : ℕ → ℕ → List Bytes → List Row
 rows_of version part [] = []
-rows_of version part (piece ∷ pieces) = record { key = row_key version part; value = piece } ∷ rows_of version (part + 1) pieces
+rows_of version part (piece ∷ pieces) =
+    record { key = row_key version part; value = piece } ∷ rows_of version (part + 1) pieces
 
 abbrev pub joined : List Bytes → Bytes
 joined pieces = flat_map (λ piece. piece) pieces
@@ -61,7 +66,9 @@ pub record AreOf (pieces : List Bytes) (batch : Batch) : Type 0 where
 abbrev pub Spell : ℕ → ℕ → List Batch → List Row → Type 0
 Spell low end [] rows = rows ≡ []
 Spell low end (batch ∷ batches) rows =
-    (pieces : List Bytes) × (others : List Row) × (rows ≡ rows_of batch.version 0 pieces ++ others) × AreOf pieces batch × (low ≤ batch.version) × (batch.version < end) × Spell (batch.version + 1) end batches others
+    (pieces : List Bytes) × (others : List Row) × (rows ≡ rows_of batch.version 0 pieces ++ others)
+    × AreOf pieces batch × (low ≤ batch.version) × (batch.version < end)
+    × Spell (batch.version + 1) end batches others
 
 -- the text is a log file in blocks of this size, of these batches from begin on and before end
 pub record LogFile (size : ℕ) (begin end : ℕ) (text : Bytes) (batches : List Batch) : Type 0 where

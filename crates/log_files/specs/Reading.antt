@@ -36,7 +36,9 @@ unfoldable pub records_at : ℕ → ℕ → Bytes → Result (List Record × Byt
 records_at zero t bytes = Err (faults.Short t)
 records_at (suc fuel) t bytes =
     if is_over bytes then Ok ([], bytes)
-    else (string_or t bytes >>= λ key. string_or t key.1 >>= λ value. records_at fuel t value.1 >>= λ more. Ok (record_at (t - length bytes) key.0 value.0 ∷ more.0, more.1))
+    else (string_or t bytes >>= λ key. string_or t key.1 >>= λ value.
+    records_at fuel t value.1 >>= λ more.
+    Ok (record_at (t - length bytes) key.0 value.0 ∷ more.0, more.1))
 
 -- a byte other than ff in the padding
 abbrev pub padding_at : {A : Type 0} → ℕ → Option ℕ → A → Result A LogFault
@@ -47,11 +49,15 @@ unfoldable pub unless_padded : {A : Type 0} → ℕ → Bytes → A → Result A
 unless_padded t rest x = padding_at (t - length rest) (unpadded_at rest) x
 
 abbrev pub behind_header : ℕ → Result Bytes LogFault → Result (List Record) LogFault
-behind_header t head = head >>= λ rest. records_at (length rest + 1) t rest >>= λ found. unless_padded t found.1 found.0
+behind_header t head =
+    head >>= λ rest. records_at (length rest + 1) t rest >>= λ found.
+    unless_padded t found.1 found.0
 
 -- the bytes behind a header that is this format's
 unfoldable pub header_or : ℕ → Bytes → Result Bytes LogFault
-header_or base bytes = found_or (faults.Short base) (header_at bytes) >>= λ head. (if head.0 == format then Ok head.1 else Err (faults.Format head.0))
+header_or base bytes =
+    found_or (faults.Short base) (header_at bytes) >>= λ head.
+    (if head.0 == format then Ok head.1 else Err (faults.Format head.0))
 
 -- the records of the block that the bytes are, where its header stands at the place base
 unfoldable pub block_records : ℕ → Bytes → Result (List Record) LogFault
@@ -59,8 +65,8 @@ block_records base bytes = behind_header (base + length bytes) (header_or base b
 
 -- ---- batches
 
--- the batch that is being joined: the place of its first record, its version, the next part's number and the
--- bytes so far
+-- the batch that is being joined: the place of its first record, its version, the next part's
+-- number and the bytes so far
 pub record OpenBatch : Type 0 where
   pub at : ℕ
   pub version : ℕ
@@ -77,7 +83,12 @@ abbrev pub nothing_yet : ℕ → SoFar
 nothing_yet begin = record { batches = []; low = begin; joining = None }
 
 abbrev pub with_batch : SoFar → OpenBatch → Result (List Mutation) WireFault → Result SoFar LogFault
-with_batch so_far batch (Ok muts) = Ok (record { batches = so_far.batches ++ record { version = batch.version; muts = muts } ∷ []; low = batch.version + 1; joining = None })
+with_batch so_far batch (Ok muts) =
+    Ok (record {
+      batches = so_far.batches ++ record { version = batch.version; muts = muts } ∷ [];
+      low = batch.version + 1;
+      joining = None;
+    })
 with_batch so_far batch (Err wire) = Err (faults.Batch batch.at wire)
 
 abbrev pub finish_at : SoFar → Option OpenBatch → Result SoFar LogFault
@@ -96,7 +107,16 @@ abbrev pub continued_at : SoFar → Option OpenBatch → Record → ℕ → Resu
 continued_at so_far None r part = Err (faults.Part r.at part)
 continued_at so_far (Some batch) r part =
     if part == batch.next && some r.value
-    then Ok (record { batches = so_far.batches; low = so_far.low; joining = Some (record { at = batch.at; version = batch.version; next = batch.next + 1; joined = batch.joined ++ r.value }) })
+    then Ok (record {
+      batches = so_far.batches;
+      low = so_far.low;
+      joining = Some (record {
+        at = batch.at;
+        version = batch.version;
+        next = batch.next + 1;
+        joined = batch.joined ++ r.value;
+      });
+    })
     else Err (faults.Part r.at part)
 
 unfoldable pub continued : SoFar → Record → ℕ → Result SoFar LogFault
@@ -106,7 +126,13 @@ continued so_far r part = continued_at so_far so_far.joining r part
 unfoldable pub begun : ℕ → SoFar → Record → ℕ → ℕ → Result SoFar LogFault
 begun end so_far r version part =
     if nat_le so_far.low version && nat_lt version end
-    then (if part == 0 && some r.value then Ok (record { batches = so_far.batches; low = so_far.low; joining = Some (record { at = r.at; version = version; next = 1; joined = r.value }) }) else Err (faults.Part r.at part))
+    then (if part == 0 && some r.value
+    then Ok (record {
+      batches = so_far.batches;
+      low = so_far.low;
+      joining = Some (record { at = r.at; version = version; next = 1; joined = r.value });
+    })
+    else Err (faults.Part r.at part))
     else Err (faults.Version r.at version)
 
 -- a batch of this version is being joined
@@ -137,8 +163,8 @@ all_taken end so_far (r ∷ rs) = taken end so_far r >>= λ more. all_taken end 
 
 -- ---- the file
 
--- the blocks whose bytes begin at the place base, each wholly before its records; the first number is never
--- used up
+-- the blocks whose bytes begin at the place base, each wholly before its records; the first number
+-- is never used up
 unfoldable pub blocks_from : ℕ → ℕ → ℕ → ℕ → SoFar → Bytes → Result SoFar LogFault
 blocks_from fuel size end base so_far [] = Ok so_far
 blocks_from zero size end base so_far (byte ∷ bytes) = Err (faults.Short base)
@@ -149,7 +175,9 @@ blocks_from (suc fuel) size end base so_far (byte ∷ bytes) =
 
 -- what a reader answers: the batches, or the first fault
 unfoldable pub read : ℕ → ℕ → ℕ → Bytes → Result (List Batch) LogFault
-read size begin end bytes = blocks_from (length bytes) size end 0 (nothing_yet begin) bytes >>= finished >>= λ done. Ok done.batches
+read size begin end bytes =
+    blocks_from (length bytes) size end 0 (nothing_yet begin) bytes >>= finished >>= λ done.
+    Ok done.batches
 
 -- the batches of a log file, if the bytes are one
 abbrev pub log_file_of : ℕ → ℕ → ℕ → Bytes → Option (List Batch)

@@ -4,7 +4,8 @@ use Rattle.log_files.specs.declared.batched as declared
 use Rattle.log_files.specs.Reading.{OpenBatch, SoFar}
 
 abbrev pub batch_from : declared.Joining.Joining → OpenBatch
-batch_from batch = record { at = batch.at; version = batch.version; next = batch.next; joined = batch.joined }
+batch_from batch =
+    record { at = batch.at; version = batch.version; next = batch.next; joined = batch.joined }
 
 abbrev pub joining_from : Option declared.Joining.Joining → Option OpenBatch
 joining_from None = None

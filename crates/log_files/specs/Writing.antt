@@ -12,7 +12,9 @@ use Rattle.log_files.specs.Grammar.{Row, row_text, rows_of}
 -- bytes cut at multiples of a length; the first number is never used up
 abbrev pub pieces_with : ℕ → ℕ → Bytes → List Bytes
 pieces_with zero part bytes = []
-pieces_with (suc fuel) part bytes = if nat_le (length bytes) part then bytes ∷ [] else take part bytes ∷ pieces_with fuel part (drop part bytes)
+pieces_with (suc fuel) part bytes =
+    if nat_le (length bytes) part then bytes ∷ []
+    else take part bytes ∷ pieces_with fuel part (drop part bytes)
 
 unfoldable pub pieces_of : ℕ → Bytes → List Bytes
 pieces_of part bytes = pieces_with (length bytes + 1) part bytes
@@ -20,11 +22,14 @@ pieces_of part bytes = pieces_with (length bytes + 1) part bytes
 -- rows one after the other, each in a new block exactly where it doesn't fit
 abbrev pub with_rows : ℕ → Frames → List Row → Frames
 with_rows size frames [] = frames
-with_rows size frames (row ∷ rows) = with_rows size (framed size format frames (row_text row) []) rows
+with_rows size frames (row ∷ rows) =
+    with_rows size (framed size format frames (row_text row) []) rows
 
 abbrev pub with_batches : ℕ → Frames → List Batch → Frames
 with_batches size frames [] = frames
-with_batches size frames (batch ∷ batches) = with_batches size (with_rows size frames (rows_of batch.version 0 (pieces_of (part_of size) (batch_spelling batch.muts)))) batches
+with_batches size frames (batch ∷ batches) =
+    with_batches size (with_rows size frames
+    (rows_of batch.version 0 (pieces_of (part_of size) (batch_spelling batch.muts)))) batches
 
 unfoldable pub log_text : ℕ → List Batch → Bytes
 log_text size batches = text (with_batches size no_frames batches)
@@ -32,7 +37,9 @@ log_text size batches = text (with_batches size no_frames batches)
 -- versions rise strictly from low on and before end, and each batch has a spelling
 abbrev pub AreLogged : ℕ → ℕ → List Batch → Type 0
 AreLogged low end [] = Unit {0}
-AreLogged low end (batch ∷ batches) = (low ≤ batch.version) × (batch.version < end) × HasSpelling batch.muts × AreLogged (batch.version + 1) end batches
+AreLogged low end (batch ∷ batches) =
+    (low ≤ batch.version) × (batch.version < end) × HasSpelling batch.muts
+    × AreLogged (batch.version + 1) end batches
 
 -- what a writer can write in blocks of a size: the size is in the table
 pub record IsWritable (size begin end : ℕ) (batches : List Batch) : Type 0 where

@@ -98,7 +98,10 @@ fn parts_and_blocks(rt: HostRuntime) -> Result<(), Fail> {
         (4_096, 1_000, 1_069),
         (1_048_576, 10_000, 10_069),
     ] {
-        assert_eq!(rt; length_of_log(rt.alloc(), block, &bytes[..length])?, Some(long));
+        assert_eq!(rt;
+            length_of_log(rt.alloc(), block, &bytes[..length])?,
+            Some(long)
+        );
     }
     Ok(())
 }

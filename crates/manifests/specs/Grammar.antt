@@ -18,8 +18,8 @@ abbrev pub texts : List Bytes → Items
 texts [] = no_items
 texts (text ∷ rest) = item (string text) (texts rest)
 
--- what a manifest's files have to be: range names in strictly rising order, of which begin and end are
--- the least and the greatest version
+-- what a manifest's files have to be: range names in strictly rising order, of which begin and end
+-- are the least and the greatest version
 pub record IsWhole (manifest : Manifest) : Type 0 where
   pub files : AreRangeNames None manifest.files
   pub versions : span_of manifest.files ≡ Some (manifest.begin, manifest.end)
@@ -45,7 +45,8 @@ pub record ManifestText (name : Name) (text : Bytes) (manifest : Manifest) : Typ
 -- the object that a writer writes, its members in the order of their keys
 abbrev pub written : Manifest → Data
 written manifest =
-    object (member (codes "beginVersion") (natural manifest.begin) (member (codes "endVersion") (natural manifest.end)
+    object (member (codes "beginVersion") (natural manifest.begin)
+    (member (codes "endVersion") (natural manifest.end)
     (member (codes "files") (array (texts manifest.files)) (member (codes "format") (natural 1)
     (member (codes "totalBytes") (natural manifest.bytes) no_members)))))
 

@@ -55,7 +55,8 @@ fields_of value = do
 -- the first place with a file that isn't a range name or isn't past the one before
 abbrev pub misplaced : Option Bytes → ℕ → List Bytes → Option ℕ
 misplaced last at [] = None
-misplaced last at (file ∷ files) = if fits last file then misplaced (Some file) (at + 1) files else Some at
+misplaced last at (file ∷ files) =
+    if fits last file then misplaced (Some file) (at + 1) files else Some at
 
 abbrev pub spans : Option (ℕ × ℕ) → Manifest → Bool
 spans None manifest = false
@@ -63,7 +64,9 @@ spans (Some span) manifest = span.0 == manifest.begin && span.1 == manifest.end
 
 -- the manifest agrees with its name and its files
 abbrev pub agrees : Name → Manifest → Bool
-agrees (names.Manifest begin end bytes ticket) manifest = begin == manifest.begin && end == manifest.end && bytes == manifest.bytes && spans (span_of manifest.files) manifest
+agrees (names.Manifest begin end bytes ticket) manifest =
+    begin == manifest.begin && end == manifest.end && bytes == manifest.bytes
+    && spans (span_of manifest.files) manifest
 agrees (names.Range snapshot version ticket block) manifest = false
 agrees (names.Log begin end ticket block) manifest = false
 agrees names.Unreliable manifest = false

@@ -1,13 +1,13 @@
 -- The two laws of reading: what is read is spelled so, and what is spelled so is read.
-use Rattle.std.proofs.Common.{◌≡◌, ℕ, zero, suc, ◌+◌, ◌-◌, ◌^◌, ◌<◌, ◌≤◌, Bool, true, false, cond, eqb, ltb, nat_eq, List, [], ◌∷◌, ◌++◌, length, take, drop, find, Option, Some, None, Result, Ok, Err, inr, refl, sym, ap, subst, ◌∙◌, append_assoc, arith, length-append}
+use Rattle.std.proofs.Common.{◌≡◌, ℕ, zero, suc, ◌+◌, ◌-◌, ◌^◌, ◌<◌, ◌≤◌, Bool, true, false, cond, eqb, ltb, List, [], ◌∷◌, ◌++◌, length, take, drop, Option, Some, None, Result, Ok, Err, inr, refl, sym, ap, subst, ◌∙◌, append_assoc, arith, length-append}
 use Rattle.std.specs.Prelude.{IfOk}
 use Rattle.std.specs.List.{AllByRecursion}
 use Rattle.std.proofs.lemmas.Bool.{eqb-true, eq-eqb, ltb-false, le-ltb}
 use Rattle.std.proofs.lemmas.List.{take_at, drop_at, take-append-drop, length-take, length-drop, drop-drop}
 use Rattle.fb_bytes.specs.Bytes.{Bytes, IsBytes, is_below}
 use Rattle.atomic_ops.specs.declared.Op.{Op}
-use Rattle.atomic_ops.specs.declared.Op.TheVariants.{Add, And, Or, Xor, AppendIfFits, Max, Min, ByteMin, ByteMax, MinV2, AndV2, CompareAndClear}
-use Rattle.atomic_ops.specs.Codes.{code_of, every_op, op_of_code}
+use Rattle.atomic_ops.specs.Codes.{code_of, op_of_code}
+use Rattle.atomic_ops.proofs.CodeLemmas.{code_is_in_table, code_gives_op, op_has_code}
 use Rattle.mutations.specs.declared.mutation.Mutation.{Mutation}
 use Rattle.mutations.specs.declared.mutation.Mutation.TheVariants.{Set, ClearRange, Atomic}
 use Rattle.mutations.specs.declared.wire_fault.WireFault.{WireFault}
@@ -33,44 +33,8 @@ there fault (Some y) x e = ap (λ z. Some z) (ok_is y x e)
 
 -- ---- operations and their codes
 
-op_again : (op : Op) → op_of_code (code_of op) ≡ Some op
-op_again Add = refl
-op_again And = refl
-op_again Or = refl
-op_again Xor = refl
-op_again AppendIfFits = refl
-op_again Max = refl
-op_again Min = refl
-op_again ByteMin = refl
-op_again ByteMax = refl
-op_again MinV2 = refl
-op_again AndV2 = refl
-op_again CompareAndClear = refl
-
 code_range : (op : Op) → (1 < code_of op) × (code_of op < 2 ^ 32)
-code_range Add = (omega arith, omega arith)
-code_range And = (omega arith, omega arith)
-code_range Or = (omega arith, omega arith)
-code_range Xor = (omega arith, omega arith)
-code_range AppendIfFits = (omega arith, omega arith)
-code_range Max = (omega arith, omega arith)
-code_range Min = (omega arith, omega arith)
-code_range ByteMin = (omega arith, omega arith)
-code_range ByteMax = (omega arith, omega arith)
-code_range MinV2 = (omega arith, omega arith)
-code_range AndV2 = (omega arith, omega arith)
-code_range CompareAndClear = (omega arith, omega arith)
-
-found_step : {A : Type 0} (passes : A → Bool) (y x : A) (b : Bool) (rest : Option A) → passes y ≡ b → (rest ≡ Some x → passes x ≡ true) → cond b (Some y) rest ≡ Some x → passes x ≡ true
-found_step passes y x true rest p ih e = let same : y ≡ x = cc in ap passes (sym same) ∙ p
-found_step passes y x false rest p ih e = ih e
-
-found_passes : {A : Type 0} (passes : A → Bool) (xs : List A) (x : A) → find passes xs ≡ Some x → passes x ≡ true
-found_passes passes [] x e = absurd cc
-found_passes passes (y ∷ ys) x e = found_step passes y x (passes y) (find passes ys) refl (found_passes passes ys x) e
-
-op_is : (code : ℕ) (op : Op) → op_of_code code ≡ Some op → code_of op ≡ code
-op_is code op e = eqb-true _ _ (found_passes (λ o. nat_eq (code_of o) code) every_op op e)
+code_range op = let t = code_is_in_table op in (omega (arith, t.0), omega (arith, t.1))
 
 -- ---- one mutation
 
@@ -94,7 +58,7 @@ mutation_of_takes at (suc zero) first second m e =
 mutation_of_takes at (suc (suc n)) first second m e =
     let a = bind_ok (found_or (Code at (suc (suc n))) (op_of_code (suc (suc n)))) (λ op. Ok (Atomic op first second)) m e in
     let known = there (Code at (suc (suc n))) (op_of_code (suc (suc n))) a.0 a.1 in
-    subst (IsRead (suc (suc n)) first second) (ok_is (Atomic a.0 first second) m a.2) (record { code_is = op_is (suc (suc n)) a.0 known; first_is = refl; second_is = refl; forward = tt })
+    subst (IsRead (suc (suc n)) first second) (ok_is (Atomic a.0 first second) m a.2) (record { code_is = op_has_code (suc (suc n)) a.0 known; first_is = refl; second_is = refl; forward = tt })
 
 mutation_of_atomic : (at code : ℕ) (first second : Bytes) → 1 < code → mutation_of at code first second ≡ atomic_at at code first second
 unfolding mutation_of
@@ -106,7 +70,7 @@ mutation_of_again : (at : ℕ) (m : Mutation) → IsForward m → mutation_of at
 unfolding mutation_of
 mutation_of_again at (Set key value) h = refl
 mutation_of_again at (ClearRange begin end) h = rw h refl
-mutation_of_again at (Atomic op key param) h = mutation_of_atomic at (code_of op) key param (code_range op).0 ∙ rw (op_again op) refl
+mutation_of_again at (Atomic op key param) h = mutation_of_atomic at (code_of op) key param (code_range op).0 ∙ rw (code_gives_op op) refl
 
 spelled_as : (m : Mutation) (code : ℕ) (first second : Bytes) → IsRead code first second m → parts_spelling code first second ≡ mutation_spelling m
 spelled_as m code first second r = λ i. parts_spelling (sym r.code_is i) (sym r.first_is i) (sym r.second_is i)

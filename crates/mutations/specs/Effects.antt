@@ -11,11 +11,13 @@ use Rattle.mutations.specs.declared.mutation.Mutation.TheVariants.{Set, ClearRan
 abbrev pub range_of : Bytes → Bytes → KeyRange
 range_of begin end = record { begin = begin; end = end }
 
--- what a mutation leaves at a key, by the value before; the limit is that of a value which an operation appends to
+-- what a mutation leaves at a key, by the value before; the limit is that of a value which an
+-- operation appends to
 abbrev pub effect : ℕ → Mutation → Bytes → Option Bytes → Option Bytes
 effect limit (Set k value) key old = if is_same k key then Some value else old
 effect limit (ClearRange begin end) key old = if holds (range_of begin end) key then None else old
-effect limit (Atomic op k param) key old = if is_same k key then operation op old param limit else old
+effect limit (Atomic op k param) key old =
+    if is_same k key then operation op old param limit else old
 
 -- what mutations leave at a key, one after the other
 abbrev pub effects : ℕ → List Mutation → Bytes → Option Bytes → Option Bytes

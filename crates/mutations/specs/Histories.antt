@@ -33,7 +33,10 @@ with_batch version (m ∷ ms) rest = record { version = version; muts = m ∷ ms
 -- what a job with these ranges logs of the entries with begin <= version < end
 abbrev pub logged : List Entry → List KeyRange → ℕ → ℕ → List Batch
 logged [] ranges begin end = []
-logged (x ∷ xs) ranges begin end = if is_within begin end x.version then with_batch x.version (all_clipped ranges x.muts) (logged xs ranges begin end) else logged xs ranges begin end
+logged (x ∷ xs) ranges begin end =
+    if is_within begin end x.version
+    then with_batch x.version (all_clipped ranges x.muts) (logged xs ranges begin end)
+    else logged xs ranges begin end
 
 -- the job that holds the lock after an entry, by the holder before it
 abbrev pub lock_after : Option ℕ → Who → Option ℕ

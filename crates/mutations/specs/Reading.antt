@@ -33,8 +33,8 @@ mutation_at at bytes = do
   mutation ← mutation_of at parts.code parts.first parts.second
   Ok (mutation, parts.rest)
 
--- The mutations that are the last bytes of a batch of `total` bytes, at most `most` of them. A mutation
--- stands at the number of bytes before it.
+-- The mutations that are the last bytes of a batch of `total` bytes, at most `most` of them. A
+-- mutation stands at the number of bytes before it.
 unfoldable pub mutations_at : ℕ → ℕ → Bytes → Result (List Mutation) WireFault
 mutations_at most total [] = Ok []
 mutations_at zero total (b ∷ bs) = Ok []
@@ -57,8 +57,8 @@ abbrev pub unless_fault : {A : Type 0} → Option WireFault → Result A WireFau
 unless_fault None read = read
 unless_fault (Some fault) read = Err fault
 
--- The list that the bytes spell, or the first fault. Each mutation has a byte at least, so there are no
--- more of them than bytes.
+-- The list that the bytes spell, or the first fault. Each mutation has a byte at least, so there
+-- are no more of them than bytes.
 abbrev pub decoded : Bytes → Result (List Mutation) WireFault
 decoded bytes =
     unless_fault (header_fault bytes) (mutations_at (length bytes) (length bytes) (drop 12 bytes))

@@ -12,7 +12,9 @@ is_within low high version = nat_le low version && nat_lt version high
 -- what the batches with low <= version < high leave at a key, by the value before them
 abbrev pub replayed : ℕ → List Batch → ℕ → ℕ → Bytes → Option Bytes → Option Bytes
 replayed limit [] low high key old = old
-replayed limit (x ∷ xs) low high key old = replayed limit xs low high key (if is_within low high x.version then effects limit x.muts key old else old)
+replayed limit (x ∷ xs) low high key old =
+    replayed limit xs low high key
+    (if is_within low high x.version then effects limit x.muts key old else old)
 
 -- the versions of batches rise strictly
 abbrev pub AreRising : List Batch → Type 0

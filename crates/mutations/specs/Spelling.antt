@@ -1,4 +1,5 @@
--- The bytes of a batch: the number 7101, the length of the rest, and the mutations one after the other.
+-- The bytes of a batch: the number 7101, the length of the rest, and the mutations one after the
+-- other.
 use Rattle.std.specs.Prelude.{◌≡◌, ℕ, ◌-◌, ◌<◌, ◌^◌, min, true, List, ◌++◌, length}
 use Rattle.std.specs.List.{flat_map, AllByRecursion}
 use Rattle.std.specs.Int.{w32, w64, to_le_bytes}
@@ -33,7 +34,8 @@ second_string (Atomic op key param) = param
 
 -- a code, the lengths of two strings, and the strings
 abbrev pub parts_spelling : ℕ → Bytes → Bytes → Bytes
-parts_spelling code first second = u32_bytes code ++ u32_bytes (length first) ++ u32_bytes (length second) ++ first ++ second
+parts_spelling code first second =
+    u32_bytes code ++ u32_bytes (length first) ++ u32_bytes (length second) ++ first ++ second
 
 abbrev pub mutation_spelling : Mutation → Bytes
 mutation_spelling m = parts_spelling (mutation_code m) (first_string m) (second_string m)

@@ -102,4 +102,5 @@ tx_fault keys values ops =
     option_map Outside (first_place is_outside ops)
     or_else option_map KeyTooLarge (first_place (is_key_long keys) ops)
     or_else option_map ValueTooLarge (first_place (is_value_long values) ops)
-    or_else (if nat_lt most_written (written_bytes ops) then Some (TooLarge (written_bytes ops)) else None)
+    or_else (if nat_lt most_written (written_bytes ops) then Some (TooLarge (written_bytes ops))
+    else None)

@@ -5,7 +5,7 @@ use Rattle.std.proofs.lemmas.List.{length-append}
 use Rattle.fb_bytes.specs.Bytes.{Bytes, IsBytes}
 use Rattle.fb_bytes.specs.declared.Pair.{Pair}
 use Rattle.block_frame.specs.Text.{header, string, header_at, IsPadding, unpadded_at}
-use Rattle.block_frame.proofs.Strings.{header_found, header_again}
+use Rattle.block_frame.proofs.Strings.{string-length, header_found, header_again}
 use Rattle.range_files.specs.declared.block.Block.{Block}
 use Rattle.range_files.specs.declared.fault.BlockFault.{BlockFault}
 use Rattle.range_files.specs.declared.fault.BlockFault.TheVariants.{Short, Format, Padding, Order}
@@ -16,7 +16,7 @@ use Rattle.block_frame.proofs.Steps.{found_or_ok, test_ok, ok_is}
 use Rattle.block_frame.proofs.Padding as padding
 use Rattle.block_frame.proofs.Padding.{padding_over}
 use Rattle.range_files.proofs.Steps.{unless_ok, string_or_found, string_or_again}
-use Rattle.range_files.proofs.Items.{HasKey, items_found, items_again, string-length}
+use Rattle.range_files.proofs.Items.{HasKey, items_found, items_again}
 use Rattle.range_files.proofs.Order.{disorder_none, disorder_starts, disorder_again}
 
 -- ---- padding

@@ -18,7 +18,7 @@ use Rattle.range_files.specs.Front.{before_of, all_pairs, first_begin, Grows}
 use Rattle.range_files.specs.declared.file.Front.{Front}
 use Rattle.range_files.specs.Laws.{ReadIsFile, FileIsRead, OneBody}
 use Rattle.fb_bytes.proofs.Results.{bind_ok}
-use Rattle.block_frame.proofs.Steps.{test_ok, ok_is}
+use Rattle.block_frame.proofs.Steps.{test_ok, ok_is, ok_from_side, fuel_is}
 use Rattle.fb_bytes.proofs.Order.{same_eq, same_itself}
 use Rattle.range_files.proofs.Order.{ordered_rising, rising_joined}
 use Rattle.range_files.proofs.Blocks.{block_found, block_again, block_text-append}
@@ -229,10 +229,6 @@ pub read_found : (size : ℕ) (bytes : Bytes) (body : RangeBody) → IsBytes byt
 unfolding read
 read_found size bytes body fits e = (blocks_found (length bytes + 1) size 0 0 None bytes body fits e).file
 
-ok_from_side : {A : Type 0} (r : Result A BlockFault) (x : A) → ok_side r ≡ Some x → r ≡ Ok x
-ok_from_side (Ok y) x e = cc
-ok_from_side (Err f) x e = absurd cc
-
 pub read_is_file : ReadIsFile
 read_is_file size bytes body fits e = read_found size bytes body fits (ok_from_side (read size bytes) body e)
 
@@ -261,10 +257,6 @@ pub record FileSoFar (front : Option Front) (size index base : ℕ) (rest : Byte
 pub file_begins : (size : ℕ) (bytes : Bytes) → FileSoFar None size 0 0 bytes (read size bytes)
 unfolding read
 file_begins size bytes = record { fuel = length bytes + 1; enough = omega arith; same = refl }
-
-fuel_is : (n fuel : ℕ) → n < fuel → (less : ℕ) × (fuel ≡ suc less)
-fuel_is n zero lt = absurd (omega arith)
-fuel_is n (suc less) lt = (less, refl)
 
 bad_block : (fuel size index base : ℕ) (before : Option (Option Pair)) (bytes : Bytes) (fault : BlockFault) → block_of format base (take size bytes) ≡ Err fault → blocks_from (suc fuel) size index base before bytes ≡ Err fault
 unfolding blocks_from

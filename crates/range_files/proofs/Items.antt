@@ -9,7 +9,8 @@ use Rattle.range_files.specs.declared.fault.BlockFault.{BlockFault}
 use Rattle.range_files.specs.Grammar.{pair_text, pairs_text, end_text, padding_like, LengthsFit}
 use Rattle.range_files.specs.Reading.{◌>>=◌, Items, with_pair, string_or, items_at}
 use Rattle.fb_bytes.proofs.Results.{bind_ok}
-use Rattle.block_frame.proofs.Steps.{ok_is}
+use Rattle.block_frame.proofs.Steps.{ok_is, fuel_is}
+use Rattle.block_frame.proofs.Strings.{string-length}
 use Rattle.range_files.proofs.Steps.{string_or_size, string_or_found, string_or_again}
 
 abbrev pub pair_of : Bytes → Bytes → Pair
@@ -54,10 +55,6 @@ items_begin t bytes = record { fuel = length bytes + 1; enough = omega arith; sa
     whole : (reading : Result Items BlockFault) → behind_pairs [] reading ≡ reading
     whole (Ok x) = refl
     whole (Err f) = refl
-
-fuel_is : (n fuel : ℕ) → n < fuel → (less : ℕ) × (fuel ≡ suc less)
-fuel_is n zero lt = absurd (omega arith)
-fuel_is n (suc less) lt = (less, refl)
 
 regroup : (front : List Pair) (key value : Bytes) (reading : Result Items BlockFault) → behind_pairs front (reading >>= λ more. Ok (with_pair key value more)) ≡ behind_pairs (front ++ pair_of key value ∷ []) reading
 regroup front key value (Ok items) = ap (λ (ps : List Pair). Ok (record { pairs = ps; end = items.end; rest = items.rest })) (sym (append_assoc front (pair_of key value ∷ []) items.pairs))
@@ -111,9 +108,6 @@ pub record AreItems (limit : ℕ) (bytes : Bytes) (items : Items) : Type 0 where
   pub parts : bytes ≡ pairs_text items.pairs ++ (end_text items.end ++ items.rest)
   pub lengths : LengthsFit limit items.pairs items.end
   pub has : HasKey items.pairs items.end
-
-pub string-length : (s : Bytes) → length (string s) ≡ 4 + length s
-string-length s = omega arith
 
 pub pairs-first : (pair : Pair) (pairs : List Pair) (more : Bytes) → pairs_text (pair ∷ pairs) ++ more ≡ string pair.key ++ (string pair.value ++ (pairs_text pairs ++ more))
 pairs-first pair pairs more = append_assoc (pair_text pair) (pairs_text pairs) more ∙ append_assoc (string pair.key) (string pair.value) (pairs_text pairs ++ more)

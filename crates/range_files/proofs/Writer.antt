@@ -10,7 +10,7 @@ use Rattle.block_frame.specs.Profiles.{key_limit_of, limit_of}
 use Rattle.block_frame.specs.Frames.{Frames, no_frames, framed, text}
 use Rattle.range_files.specs.Grammar.{format, pair_text}
 use Rattle.range_files.specs.Writing.{repeat_of, with_pairs, range_text, PairFits}
-use Rattle.range_files.proofs.Items.{string-length}
+use Rattle.block_frame.proofs.Strings.{string-length}
 use Rattle.range_files.proofs.Written.{pair-length}
 
 -- the pairs before were written, and these are left

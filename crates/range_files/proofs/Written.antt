@@ -1,37 +1,23 @@
 -- What is written is in the grammar.
-use Rattle.std.proofs.Common.{◌≡◌, ℕ, ◌+◌, ◌-◌, ◌^◌, ◌<◌, ◌≤◌, Bool, true, false, leb, List, [], ◌∷◌, ◌++◌, length, replicate, Option, Some, None, refl, sym, ap, subst, ◌∙◌, append_assoc, arith, rules}
+use Rattle.std.proofs.Common.{◌≡◌, ℕ, ◌+◌, ◌-◌, ◌^◌, ◌<◌, ◌≤◌, Bool, true, false, leb, List, [], ◌∷◌, ◌++◌, length, replicate, Option, Some, None, refl, sym, ap, subst, ◌∙◌, append_assoc, arith}
 use Rattle.std.specs.List.{AllByRecursion}
-use Rattle.std.proofs.lemmas.Bool.{ne_eqb, le-leb, lt-leb, leb-true, leb-false}
+use Rattle.std.proofs.lemmas.Bool.{leb-true, leb-false}
 use Rattle.std.proofs.lemmas.List.{append-nil, length-append, length-replicate}
 use Rattle.fb_bytes.specs.Bytes.{Bytes, is_below}
-use Rattle.fb_bytes.specs.Blocks.{is_block}
 use Rattle.fb_bytes.specs.Pairs.{AreRising}
 use Rattle.fb_bytes.specs.declared.Pair.{Pair}
 use Rattle.block_frame.specs.Text.{header, string}
 use Rattle.block_frame.specs.Profiles.{key_limit_of, limit_of, IsRoomy}
 use Rattle.block_frame.specs.Frames.{Frames, no_frames, framed, begun, padded, text}
 use Rattle.block_frame.proofs.Padding.{padding_is}
+use Rattle.block_frame.proofs.Frames.{framed_first, framed_fits, framed_begins, roomy}
+use Rattle.block_frame.proofs.Strings.{string-length}
 use Rattle.range_files.specs.Grammar.{format, pair_text, pairs_text, block_text, padding_like, LengthsFit, RiseFrom, end_key, IsOrdered, IsBlock, RangeFile, LastBlock, EarlierBlock}
 use Rattle.range_files.specs.Writing.{repeat_of, with_pairs, range_text, PairFits, IsWritable}
 use Rattle.range_files.specs.Laws.{WrittenIsFile, WrittenIsRead}
 use Rattle.fb_bytes.proofs.Order.{below_itself}
 use Rattle.range_files.proofs.Order.{from_end}
-use Rattle.range_files.proofs.Items.{string-length}
 use Rattle.range_files.proofs.Files.{file_is_read}
-
--- ---- a writer's steps
-
-pub framed_fits : (size : ℕ) (frames : Frames) (item repeat : Bytes) → 0 < length frames.present → length frames.present + length item ≤ size → framed size format frames item repeat ≡ record { full = frames.full; present = frames.present ++ item }
-unfolding framed
-framed_fits size frames item repeat some room = rw (ne_eqb (length frames.present) 0 (λ e. omega arith), le-leb (length frames.present + length item) size room) refl
-
-pub framed_begins : (size : ℕ) (frames : Frames) (item repeat : Bytes) → 0 < length frames.present → size < length frames.present + length item → framed size format frames item repeat ≡ record { full = frames.full ++ padded size frames.present; present = begun format repeat item }
-unfolding framed
-framed_begins size frames item repeat some full = rw (ne_eqb (length frames.present) 0 (λ e. omega arith), lt-leb (length frames.present + length item) size full) refl
-
-pub framed_first : (size : ℕ) (item : Bytes) → framed size format no_frames item [] ≡ record { full = []; present = begun format [] item }
-unfolding framed
-framed_first size item = refl
 
 -- ---- lists of pairs
 
@@ -219,7 +205,7 @@ end_step : (size : ℕ) (full begin end : Bytes) (pairs : List Pair) (last : Opt
     → Writes size full begin end pairs (text (framed size format (record { full = full; present = present_text begin pairs }) (string end) (repeat_of last)))
 end_step size full begin end pairs last g l room true h =
     let small = leb-true _ _ h in
-    record { rest = present_text begin pairs ++ string end; parts = ap text (framed_fits size (record { full = full; present = present_text begin pairs }) (string end) (repeat_of last) (omega arith) small); file = last_block size begin end pairs g small }
+    record { rest = present_text begin pairs ++ string end; parts = ap text (framed_fits size format (record { full = full; present = present_text begin pairs }) (string end) (repeat_of last) (omega arith) small); file = last_block size begin end pairs g small }
 end_step size full begin end pairs last g l room false h =
     let big = leb-false _ _ h in
     let r = g.roomy in
@@ -232,7 +218,7 @@ end_step size full begin end pairs last g l room false h =
     let whole = joined size begin end (begun format (repeat_of (Some p.0)) (string end)) pairs p.0 [] p.1 p.3 block more in
     record {
       rest = padded size (present_text begin pairs) ++ begun format (repeat_of last) (string end);
-      parts = ap text (framed_begins size (record { full = full; present = present_text begin pairs }) (string end) (repeat_of last) (omega arith) big) ∙ append_assoc full (padded size (present_text begin pairs)) (begun format (repeat_of last) (string end));
+      parts = ap text (framed_begins size format (record { full = full; present = present_text begin pairs }) (string end) (repeat_of last) (omega arith) big) ∙ append_assoc full (padded size (present_text begin pairs)) (begun format (repeat_of last) (string end));
       file = subst (λ (x : Option Pair). RangeFile size (padded size (present_text begin pairs) ++ begun format (repeat_of x) (string end)) begin end pairs) (sym p.2) (subst (RangeFile size (padded size (present_text begin pairs) ++ begun format (repeat_of (Some p.0)) (string end)) begin end) (append-nil pairs) whole);
     }
 
@@ -244,7 +230,7 @@ pair_step size full begin end pairs last next left g l room ih true h =
     let small = leb-true _ _ h in
     let split = append_assoc pairs (next ∷ []) left in
     let pushed : framed size format (record { full = full; present = present_text begin pairs }) (pair_text next) (repeat_of last) ≡ record { full = full; present = present_text begin (pairs ++ (next ∷ [])) } =
-    framed_fits size (record { full = full; present = present_text begin pairs }) (pair_text next) (repeat_of last) (omega arith) small ∙ ap (λ (x : Bytes). record { full = full; present = x }) (text_push begin pairs next) in
+    framed_fits size format (record { full = full; present = present_text begin pairs }) (pair_text next) (repeat_of last) (omega arith) small ∙ ap (λ (x : Bytes). record { full = full; present = x }) (text_push begin pairs next) in
     let fits : length (present_text begin (pairs ++ (next ∷ []))) ≤ size = omega (arith, ap length (text_push begin pairs next), length-append (present_text begin pairs) (pair_text next)) in
     let w = ih full begin (pairs ++ (next ∷ [])) (subst (Goes size begin end) (sym split) g) (last_push pairs next) fits in
     record { rest = w.rest; parts = ap (λ (f : Frames). text (with_pairs size f (Some next) left end)) pushed ∙ w.parts; file = subst (RangeFile size w.rest begin end) split w.file }
@@ -262,7 +248,7 @@ pair_step size full begin end pairs last next left g l room ih false h =
     let fits : length (present_text p.0.key (p.0 ∷ next ∷ [])) ≤ size = omega (arith, present-length p.0.key (p.0 ∷ next ∷ []), length-append (pair_text p.0) (pairs_text (next ∷ [])), length-append (pair_text next) [], pair-length p.0, pair-length next, first.key, first.value, fit.key, fit.value, r.pairs) in
     let w = ih full' p.0.key (p.0 ∷ next ∷ []) later (p.0 ∷ [], refl) fits in
     let begun' : framed size format (record { full = full; present = present_text begin pairs }) (pair_text next) (repeat_of last) ≡ record { full = full'; present = present_text p.0.key (p.0 ∷ next ∷ []) } =
-    framed_begins size (record { full = full; present = present_text begin pairs }) (pair_text next) (repeat_of last) (omega arith) big ∙ ap (λ (x : Bytes). record { full = full'; present = x }) (ap (λ (o : Option Pair). begun format (repeat_of o) (pair_text next)) p.2 ∙ text_begun_pair p.0 next) in
+    framed_begins size format (record { full = full; present = present_text begin pairs }) (pair_text next) (repeat_of last) (omega arith) big ∙ ap (λ (x : Bytes). record { full = full'; present = x }) (ap (λ (o : Option Pair). begun format (repeat_of o) (pair_text next)) p.2 ∙ text_begun_pair p.0 next) in
     record {
       rest = padded size (present_text begin pairs) ++ w.rest;
       parts = ap (λ (f : Frames). text (with_pairs size f (Some next) left end)) begun' ∙ w.parts ∙ append_assoc full (padded size (present_text begin pairs)) w.rest;
@@ -285,9 +271,6 @@ first_from : (size : ℕ) (begin end : Bytes) (pairs : List Pair) → AllByRecur
 first_from size begin end [] h = tt
 first_from size begin end (pair ∷ pairs) h = h.0.from_begin
 
-pub roomy : (size : ℕ) → is_block size ≡ true → IsRoomy size
-roomy size listed = search rules
-
 pub written_file : (size : ℕ) (begin end : Bytes) (pairs : List Pair) → IsWritable size begin end pairs → AreRising pairs → RangeFile size (range_text size begin end pairs) begin end pairs
 unfolding range_text
 written_file size begin end pairs w rising =
@@ -296,7 +279,7 @@ written_file size begin end pairs w rising =
     let start : begun format [] (string begin) ≡ present_text begin [] = ap (λ (x : Bytes). header format ++ x) (sym (append-nil (string begin))) in
     let fits : length (present_text begin []) ≤ size = omega (arith, present-length begin [], w.begin_limit, r.pairs) in
     let one = writes size pairs [] begin end [] None g tt fits in
-    let first : framed size format no_frames (string begin) [] ≡ record { full = []; present = present_text begin [] } = framed_first size (string begin) ∙ ap (λ (x : Bytes). record { full = []; present = x }) start in
+    let first : framed size format no_frames (string begin) [] ≡ record { full = []; present = present_text begin [] } = framed_first size format (string begin) [] ∙ ap (λ (x : Bytes). record { full = []; present = x }) start in
     let whole : text (with_pairs size (framed size format no_frames (string begin) []) None pairs end) ≡ one.rest = ap (λ (f : Frames). text (with_pairs size f None pairs end)) first ∙ one.parts in
     subst (λ (x : Bytes). RangeFile size x begin end pairs) (sym whole) one.file
 

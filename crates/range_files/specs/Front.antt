@@ -22,7 +22,8 @@ first_begin None begin = begin
 first_begin (Some front) begin = front.begin
 
 -- the blocks so far and one more
-pub record Grows (front : Option declared.Front.Front) (block : Block) (grown : declared.Front.Front) : Type 0 where
+pub record Grows (front : Option declared.Front.Front) (block : Block)
+    (grown : declared.Front.Front) : Type 0 where
   pub begin_is : grown.begin ≡ first_begin front block.begin
   pub pairs_are : grown.pairs.items ≡ all_pairs front (all_but_last block.pairs)
   pub link_is : grown.link ≡ link_of block

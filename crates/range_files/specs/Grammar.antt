@@ -19,19 +19,24 @@ abbrev pub end_text : Option Bytes → Bytes
 end_text None = []
 end_text (Some end) = string end
 
--- a block up to its padding: its number, its begin key, its pairs, and the lone end key of the last block
+-- a block up to its padding: its number, its begin key, its pairs, and the lone end key of the last
+-- block
 abbrev pub block_text : ℕ → Bytes → List Pair → Option Bytes → Bytes
-block_text number begin pairs end = header number ++ (string begin ++ (pairs_text pairs ++ end_text end))
+block_text number begin pairs end =
+    header number ++ (string begin ++ (pairs_text pairs ++ end_text end))
 
 -- from this length on, a length begins with the byte that padding is made of
 abbrev pub padding_like : ℕ
 padding_like = 255 * 2 ^ 24
 
--- lengths are numbers of 32 bits, and behind the first key none begins with the byte ff, which would be padding
+-- lengths are numbers of 32 bits, and behind the first key none begins with the byte ff, which
+-- would be padding
 abbrev pub LengthsFit : ℕ → List Pair → Option Bytes → Type 0
 LengthsFit limit [] None = Unit {0}
 LengthsFit limit [] (Some end) = length end < limit
-LengthsFit limit (pair ∷ pairs) end = (length pair.key < limit) × (length pair.value < padding_like) × LengthsFit padding_like pairs end
+LengthsFit limit (pair ∷ pairs) end =
+    (length pair.key < limit) × (length pair.value < padding_like)
+    × LengthsFit padding_like pairs end
 
 -- each key is past the one before it
 abbrev pub RiseFrom : Bytes → List Pair → Option Bytes → Type 0
@@ -49,10 +54,13 @@ end_key pair (next ∷ pairs) end = end_key next pairs end
 abbrev pub IsOrdered : Bytes → List Pair → Option Bytes → Type 0
 IsOrdered begin [] None = ⊥
 IsOrdered begin [] (Some end) = is_below begin end ≡ true
-IsOrdered begin (pair ∷ pairs) end = (is_below pair.key begin ≡ false) × RiseFrom pair.key pairs end × (is_below begin (end_key pair pairs end) ≡ true)
+IsOrdered begin (pair ∷ pairs) end =
+    (is_below pair.key begin ≡ false) × RiseFrom pair.key pairs end
+    × (is_below begin (end_key pair pairs end) ≡ true)
 
 -- the bytes are a block of this number with this begin key, these pairs and this lone end key
-pub record IsBlock (number : ℕ) (text begin : Bytes) (pairs : List Pair) (end : Option Bytes) : Type 0 where
+pub record IsBlock (number : ℕ) (text begin : Bytes) (pairs : List Pair)
+    (end : Option Bytes) : Type 0 where
   pub padding : Bytes
   pub parts : text ≡ block_text number begin pairs end ++ padding
   pub padded : IsPadding padding
@@ -66,14 +74,21 @@ StartsAt begin [] = Unit {0}
 StartsAt begin (pair ∷ pairs) = pair.key ≡ begin
 
 -- the bytes are a block whose header stands at this place of its file; at 0 it is the first one
-pub record IsBlockAt (number place : ℕ) (text begin : Bytes) (pairs : List Pair) (end : Option Bytes) : Type 0 where
+pub record IsBlockAt (number place : ℕ) (text begin : Bytes) (pairs : List Pair)
+    (end : Option Bytes) : Type 0 where
   pub is : IsBlock number text begin pairs end
   pub starts : 0 < place → StartsAt begin pairs
 
 -- the text is a range file in blocks of this size, of the pairs between begin and end
 pub data RangeFile : ℕ → Bytes → Bytes → Bytes → List Pair → Type 0 where
   -- the last block ends with the end key alone
-  LastBlock : {size : ℕ} {text begin end : Bytes} {pairs : List Pair} → IsBlock format text begin pairs (Some end) → length text ≤ size → RangeFile size text begin end pairs
-  -- an earlier block is full and ends with a pair, with which the next block begins and which counts there
-  EarlierBlock : {size : ℕ} {text begin end : Bytes} {pairs : List Pair} (front rest : Bytes) (before others : List Pair) (pair : Pair) → text ≡ front ++ rest → pairs ≡ before ++ (pair ∷ others)
-      → IsBlock format front begin (before ++ (pair ∷ [])) None → length front ≡ size → RangeFile size rest pair.key end (pair ∷ others) → RangeFile size text begin end pairs
+  LastBlock : {size : ℕ} {text begin end : Bytes} {pairs : List Pair}
+      → IsBlock format text begin pairs (Some end) → length text ≤ size
+      → RangeFile size text begin end pairs
+  -- an earlier block is full and ends with a pair, with which the next block begins and which
+  -- counts there
+  EarlierBlock : {size : ℕ} {text begin end : Bytes} {pairs : List Pair} (front rest : Bytes)
+      (before others : List Pair) (pair : Pair) → text ≡ front ++ rest
+      → pairs ≡ before ++ (pair ∷ others)
+      → IsBlock format front begin (before ++ (pair ∷ [])) None → length front ≡ size
+      → RangeFile size rest pair.key end (pair ∷ others) → RangeFile size text begin end pairs

@@ -24,24 +24,35 @@ unless (Some fault) more = Err fault
 unfoldable pub string_or : ℕ → Bytes → Result (Bytes × Bytes) BlockFault
 string_or t bytes = found_or (Short (t - length bytes)) (string_at bytes)
 
--- what stands behind the begin key: pairs, the lone key that may end the block, and the bytes behind them
+-- what stands behind the begin key: pairs, the lone key that may end the block, and the bytes
+-- behind them
 pub record Items : Type 0 where
   pub pairs : List Pair
   pub end : Option Bytes
   pub rest : Bytes
 
 abbrev pub with_pair : Bytes → Bytes → Items → Items
-with_pair key value items = record { pairs = record { key = key; value = value } ∷ items.pairs; end = items.end; rest = items.rest }
+with_pair key value items =
+    record {
+      pairs = record { key = key; value = value } ∷ items.pairs;
+      end = items.end;
+      rest = items.rest;
+    }
 
--- keys and values in turn; behind each the block may be over. The first number is one more than the strings
--- that may still come, so it is never used up.
+-- one pair, with which the block ends
+abbrev pub one_pair : Bytes → Bytes → Bytes → Items
+one_pair key value rest =
+    record { pairs = record { key = key; value = value } ∷ []; end = None; rest = rest }
+
+-- keys and values in turn; behind each the block may be over. The first number is one more than the
+-- strings that may still come, so it is never used up.
 unfoldable pub items_at : ℕ → ℕ → Bytes → Result Items BlockFault
 items_at zero t bytes = Err (Short t)
 items_at (suc fuel) t bytes = do
   key ← string_or t bytes
   if is_over key.1 then Ok (record { pairs = []; end = Some key.0; rest = key.1 }) else do
     value ← string_or t key.1
-    if is_over value.1 then Ok (record { pairs = record { key = key.0; value = value.0 } ∷ []; end = None; rest = value.1 }) else do
+    if is_over value.1 then Ok (one_pair key.0 value.0 value.1) else do
       more ← items_at fuel t value.1
       Ok (with_pair key.0 value.0 more)
 
@@ -53,13 +64,17 @@ place_after at (Some place) = Some (at + place)
 unfoldable pub padding_fault : ℕ → Bytes → Option ℕ
 padding_fault t rest = place_after (t - length rest) (unpadded_at rest)
 
--- the place of the first key that isn't past the one before it; the next key's length stands at the place at
+-- the place of the first key that isn't past the one before it; the next key's length stands at the
+-- place at
 abbrev pub unrisen : Bytes → ℕ → List Pair → Option Bytes → Option ℕ
 unrisen last at [] None = None
 unrisen last at [] (Some end) = if is_below last end then None else Some at
-unrisen last at (pair ∷ pairs) end = if is_below last pair.key then unrisen pair.key (at + (8 + length pair.key + length pair.value)) pairs end else Some at
+unrisen last at (pair ∷ pairs) end =
+    if is_below last pair.key
+    then unrisen pair.key (at + (8 + length pair.key + length pair.value)) pairs end else Some at
 
--- in the first block the first key may be the begin key or past it, in later ones it is the begin key
+-- in the first block the first key may be the begin key or past it, in later ones it is the begin
+-- key
 abbrev pub starts_well : Bool → Bytes → Bytes → Bool
 starts_well true begin key = not (is_below key begin)
 starts_well false begin key = is_same key begin
@@ -95,11 +110,13 @@ structure_of number base bytes = do
 abbrev pub block_from : ℕ → ℕ → Bytes → Items → Result Block BlockFault
 block_from base t begin items =
     unless (fault_at (λ at. Padding at) (padding_fault t items.rest))
-    (unless (fault_at (λ at. Order at) (disorder (base == 0) begin (base + (8 + length begin)) items.pairs items.end))
+    (unless (fault_at
+    (λ at. Order at) (disorder (base == 0) begin (base + (8 + length begin)) items.pairs items.end))
     (Ok (record { begin = begin; pairs = items.pairs; end = items.end })))
 
 unfoldable pub block_of : ℕ → ℕ → Bytes → Result Block BlockFault
-block_of number base bytes = structure_of number base bytes >>= λ x. block_from base (base + length bytes) x.0 x.1
+block_of number base bytes =
+    structure_of number base bytes >>= λ x. block_from base (base + length bytes) x.0 x.1
 
 -- the last one of some pairs, and those before it
 abbrev pub last_of : List Pair → Option Pair
@@ -136,17 +153,21 @@ last_body at begin pairs None = Err (Short at)
 last_body at begin pairs (Some end) = Ok (record { begin = begin; end = end; pairs = pairs })
 
 abbrev pub after_block : Block → RangeBody → RangeBody
-after_block block body = record { begin = block.begin; end = body.end; pairs = all_but_last block.pairs ++ body.pairs }
+after_block block body =
+    record { begin = block.begin; end = body.end; pairs = all_but_last block.pairs ++ body.pairs }
 
--- the blocks from an index on, whose bytes begin at the place base; the first number is never used up
-unfoldable pub blocks_from : ℕ → ℕ → ℕ → ℕ → Option (Option Pair) → Bytes → Result RangeBody BlockFault
+-- the blocks from an index on, whose bytes begin at the place base; the first number is never used
+-- up
+unfoldable pub blocks_from : ℕ → ℕ → ℕ → ℕ → Option (Option Pair) → Bytes
+    → Result RangeBody BlockFault
 blocks_from zero size index base before bytes = Err (Short base)
 blocks_from (suc fuel) size index base before bytes =
     block_of format base (take size bytes) >>= λ block.
     (if joins before block
     then (if nat_le (length bytes) size
     then last_body (base + length bytes) block.begin block.pairs block.end
-    else (blocks_from fuel size (index + 1) (base + size) (Some (link_of block)) (drop size bytes) >>= λ body. Ok (after_block block body)))
+    else (blocks_from fuel size (index + 1) (base + size) (Some (link_of block))
+    (drop size bytes) >>= λ body. Ok (after_block block body)))
     else Err (Join index))
 
 -- what a reader answers: the file's content, or the first fault
