@@ -117,8 +117,3 @@ job_is bytes key e = ap (λ (k : Key). k.job) e
 pub version_is : (bytes : Bytes) (key : Key) → key_in bytes ≡ key → from_be_bytes w64 (take 8 (drop 16 bytes)) ≡ key.version
 unfolding key_in
 version_is bytes key e = ap (λ (k : Key). k.version) e
-
-pub order_is : (x y : Bytes) (a b : Key) → x ≡ key_bytes (key_in x) → Fits (key_in x) → y ≡ key_bytes (key_in y) → Fits (key_in y) → key_in x ≡ a → key_in y ≡ b → is_below x y ≡ is_key_below a b
-order_is x y a b hx fx hy fy ea eb =
-    ap (λ (z : Bytes). is_below z y) hx ∙ ap (is_below (key_bytes (key_in x))) hy ∙ key_order (key_in x) (key_in y) fx fy
-    ∙ ap (λ (k : Key). is_key_below k (key_in y)) ea ∙ ap (is_key_below a) eb

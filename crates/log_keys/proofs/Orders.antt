@@ -72,6 +72,9 @@ same_itself a b = rw (eq-eqb a a refl, eq-eqb b b refl) refl
 pub before_version : (a b c d : ℕ) → a ≡ c → before a b c d ≡ true → b < d
 before_version a b c d e h = elim (before_is a b c d h) [ inl lt ↦ absurd (omega arith) | inr p ↦ p.1 ]
 
+pub before_least : (a b c d : ℕ) → before a b c d ≡ true → a ≤ c
+before_least a b c d h = elim (before_is a b c d h) [ inl lt ↦ omega arith | inr p ↦ (let e = p.0 in omega arith) ]
+
 -- before the first part of a version
 pub before_start : (a b c : ℕ) → before a b c 0 ≡ true → a < c
 before_start a b c h = elim (before_is a b c 0 h) [ inl lt ↦ lt | inr p ↦ (let lt = p.1 in absurd (omega arith)) ]

@@ -1,15 +1,15 @@
 -- A binary search finds how many keys are below a key.
-use Rattle.std.proofs.Common.{◌≡◌, ℕ, zero, suc, ◌-◌, max, ◌<◌, ◌≤◌, ◌⊎◌, inl, inr, Bool, true, false, ◌&&◌, eqb, ltb, leb, List, [], ◌∷◌, length, take, drop, get_or, refl, sym, ap, ◌∙◌, arith}
-use Rattle.std.specs.List.{AllByRecursion}
+use Rattle.std.proofs.Common.{◌≡◌, ℕ, zero, suc, ◌-◌, max, ◌<◌, ◌≤◌, ◌⊎◌, inl, inr, Bool, true, false, not, ◌&&◌, ◌||◌, eqb, ltb, leb, List, [], ◌∷◌, ◌++◌, length, take, drop, get_or, refl, sym, ap, ◌∙◌, arith}
+use Rattle.std.specs.List.{AllByRecursion, filter}
 use Rattle.std.specs.List.Sorted.{IsPartitionedBy, IsPartitionPoint}
 use Rattle.std.proofs.lemmas.Bool.{and_parts, eqb-true, ltb-true, lt-leb, le-leb, cases_lt, cases_order, lt-ltb, le-ltb, eq-eqb, ne_eqb, cond-true, cond-false}
 use Rattle.std.proofs.lemmas.List.Elements.{All-from_recursion}
 use Rattle.mutations.proofs.Basics.{not_both}
-use Rattle.log_keys.specs.Keys.{Key, is_key_below}
-use Rattle.log_keys.specs.Logs.{is_between}
+use Rattle.log_keys.specs.Keys.{Key, first_at, is_key_below}
+use Rattle.log_keys.specs.Logs.{is_between, is_older}
 use Rattle.log_keys.specs.Parts.{Row}
-use Rattle.log_keys.specs.Table.{AreRising, keys_below, rows_between}
-use Rattle.log_keys.proofs.Orders.{before, before_trans, before_start, start_before}
+use Rattle.log_keys.specs.Table.{AreRising, keys_below, has_part, rows_between}
+use Rattle.log_keys.proofs.Orders.{before, before_trans, before_least, before_start, start_before}
 
 -- ---- keys are in order
 
@@ -57,9 +57,6 @@ place_is key (r ∷ rs) (suc i) le h =
     ∙ sym (cond-true (is_key_below r.key key) (suc (keys_below key rs)) zero (h.0 0 r (omega arith) (omega arith)))
 
 -- ---- the rows between two keys
-
-abbrev pub first_at : ℕ → ℕ → Key
-first_at job version = record { job = job; version = version; part = 0 }
 
 front_out : (job begin end : ℕ) (key : Key) → is_key_below key (first_at job begin) ≡ true → is_between job begin end key.job key.version ≡ false
 front_out job begin end key h = elim (below_is key (first_at job begin) h) [
@@ -141,3 +138,173 @@ between_cut job begin end (r ∷ rs) rise = go (is_key_below r.key (first_at job
         let all : max zero (keys_below (first_at job end) (r ∷ rs)) - zero ≡ keys_below (first_at job end) (r ∷ rs) = omega arith in
         front_between job begin end (r ∷ rs) rise (e, none_below (first_at job begin) r.key rs rise.0 e)
         ∙ sym (ap (λ (n : ℕ). cut n (keys_below (first_at job end) (r ∷ rs)) (r ∷ rs)) first ∙ ap (λ (n : ℕ). take n (r ∷ rs)) all)
+
+-- ---- whether some row is there
+
+-- where a part comes before those of a job and a version
+first_below : (p q r s : Bool) → (p || (q && (r || (s && false)))) ≡ (p || (q && r))
+first_below true q r s = refl
+first_below false true true s = refl
+first_below false true false true = refl
+first_below false true false false = refl
+first_below false false r s = refl
+
+pub before_first : (key : Key) (job version : ℕ) → is_key_below key (first_at job version) ≡ (ltb key.job job || (eqb key.job job && ltb key.version version))
+before_first key job version =
+    ap (λ (b : Bool). ltb key.job job || (eqb key.job job && (ltb key.version version || (eqb key.version version && b)))) (le-ltb key.part 0 (omega arith))
+    ∙ first_below (ltb key.job job) (eqb key.job job) (ltb key.version version) (eqb key.version version)
+
+abbrev is_at : ℕ → ℕ → Key → Bool
+is_at job version key = eqb key.job job && eqb key.version version
+
+not_at : (job version : ℕ) (key : Key) → is_key_below key (first_at job version) ≡ true → is_at job version key ≡ false
+not_at job version key h = elim (below_is key (first_at job version) h) [
+  | inl lt ↦ rw (ne_eqb key.job job (λ e. omega arith)) refl
+  | inr p ↦ (let lt = before_start key.version key.part version p.1 in rw (eq-eqb key.job job p.0, ne_eqb key.version version (λ e. omega arith)) refl)
+]
+
+-- what comes behind a row that isn't before the first key, and isn't of it
+not_behind : (job version : ℕ) (key later : Key) → is_key_below key (first_at job version) ≡ false → is_at job version key ≡ false → is_key_below key later ≡ true → is_at job version later ≡ false
+not_behind job version key later h g more = go (is_at job version later) refl
+  where
+    go : (b : Bool) → is_at job version later ≡ b → is_at job version later ≡ false
+    go false e = e
+    go true e =
+        let p = and_parts (eqb later.job job) (eqb later.version version) e in
+        let same_job = eqb-true later.job job p.0 in
+        let same_version = eqb-true later.version version p.1 in
+        elim (below_is key later more) [
+          | inl lt ↦ not_both (below_from key (first_at job version) (inl (omega arith))) h
+          | inr q ↦ (let here : key.job ≡ job = q.0 ∙ same_job in elim (cases_order key.version version) [
+            | inl f ↦ not_both (rw (eq-eqb key.job job here, eq-eqb key.version version f) refl) g
+            | inr (inl lt) ↦ not_both (below_from key (first_at job version) (inr (here, start_before key.version key.part version lt))) h
+            | inr (inr gt) ↦ (let no = before_least key.version key.part later.version later.part q.1 in absurd (omega arith))
+          ])
+        ]
+
+none_behind : (job version : ℕ) (key : Key) (rows : List Row) → is_key_below key (first_at job version) ≡ false → is_at job version key ≡ false → AllByRecursion (λ (later : Row). is_key_below key later.key ≡ true) rows → has_part job version rows ≡ false
+none_behind job version key [] h g all = refl
+none_behind job version key (r ∷ rs) h g all = ap (λ (b : Bool). b || has_part job version rs) (not_behind job version key r.key h g all.0) ∙ none_behind job version key rs h g all.1
+
+there_first : (job version : ℕ) (x : Row) (xs : List Row) → AllByRecursion (λ (later : Row). is_key_below x.key later.key ≡ true) xs → is_key_below x.key (first_at job version) ≡ false → is_at job version x.key ≡ has_part job version (x ∷ xs)
+there_first job version x xs all f = go (is_at job version x.key) refl
+  where
+    go : (b : Bool) → is_at job version x.key ≡ b → is_at job version x.key ≡ has_part job version (x ∷ xs)
+    go true e = e ∙ sym (ap (λ (b : Bool). b || has_part job version xs) e)
+    go false e = e ∙ sym (ap (λ (b : Bool). b || has_part job version xs) e ∙ none_behind job version x.key xs f e all)
+
+pub part_there : (job version : ℕ) (rows : List Row) (i : ℕ) (r : Row) → AreRising rows → i ≡ keys_below (first_at job version) rows → i < length rows → r ≡ get_or rows i r → is_at job version r.key ≡ has_part job version rows
+part_there job version [] i r rise is lt here = absurd (omega arith)
+part_there job version (x ∷ xs) i r rise is lt here =
+    go (is_key_below x.key (first_at job version)) refl (λ (j : ℕ) same less at. part_there job version xs j r rise.1 same less at)
+  where
+    go : (b : Bool) → is_key_below x.key (first_at job version) ≡ b
+        → ((j : ℕ) → j ≡ keys_below (first_at job version) xs → j < length xs → r ≡ get_or xs j r → is_at job version r.key ≡ has_part job version xs)
+        → is_at job version r.key ≡ has_part job version (x ∷ xs)
+    go true e ih =
+        let next : i ≡ suc (keys_below (first_at job version) xs) = is ∙ cond-true _ (suc (keys_below (first_at job version) xs)) zero e in
+        ih (keys_below (first_at job version) xs) refl (omega (arith, next)) (here ∙ ap (λ (n : ℕ). get_or (x ∷ xs) n r) next)
+        ∙ sym (ap (λ (b : Bool). b || has_part job version xs) (not_at job version x.key e))
+    go false e ih =
+        let none : i ≡ zero = is ∙ cond-false _ (suc (keys_below (first_at job version) xs)) zero e in
+        let same : r ≡ x = here ∙ ap (λ (n : ℕ). get_or (x ∷ xs) n r) none in
+        ap (λ (y : Row). is_at job version y.key) same ∙ there_first job version x xs rise.0 e
+
+pub part_missing : (job version : ℕ) (rows : List Row) → length rows ≤ keys_below (first_at job version) rows → has_part job version rows ≡ false
+part_missing job version [] le = refl
+part_missing job version (x ∷ xs) le = go (is_key_below x.key (first_at job version)) refl (part_missing job version xs)
+  where
+    go : (b : Bool) → is_key_below x.key (first_at job version) ≡ b → (length xs ≤ keys_below (first_at job version) xs → has_part job version xs ≡ false) → has_part job version (x ∷ xs) ≡ false
+    go true e ih =
+        let next : keys_below (first_at job version) (x ∷ xs) ≡ suc (keys_below (first_at job version) xs) = cond-true _ (suc (keys_below (first_at job version) xs)) zero e in
+        ap (λ (b : Bool). b || has_part job version xs) (not_at job version x.key e) ∙ ih (omega (arith, next))
+    go false e ih = absurd (let none = cond-false _ (suc (keys_below (first_at job version) xs)) zero e in omega (arith, none))
+
+-- ---- the rows of a job before a version are taken out
+
+abbrev is_kept : ℕ → ℕ → Row → Bool
+is_kept job below row = not (is_older job below row.key.job row.key.version)
+
+older_is : (job below of version : ℕ) → is_older job below of version ≡ is_between job 0 below of version
+older_is job below of version = rw (le-leb 0 version (omega arith)) refl
+
+kept_all : (job below : ℕ) (rows : List Row) → AllByRecursion (λ (row : Row). is_key_below row.key (first_at job below) ≡ false) rows → filter (is_kept job below) rows ≡ rows
+kept_all job below [] h = refl
+kept_all job below (r ∷ rs) h =
+    cond-true (is_kept job below r) _ _ (ap not (older_is job below r.key.job r.key.version ∙ back_out job 0 below r.key h.0)) ∙ ap (λ (rows : List Row). r ∷ rows) (kept_all job below rs h.1)
+
+kept_front : (job below : ℕ) (rows : List Row) → AreRising rows → AllByRecursion (λ (row : Row). is_key_below row.key (first_at job 0) ≡ false) rows → filter (is_kept job below) rows ≡ drop (keys_below (first_at job below) rows) rows
+kept_front job below [] rise h = refl
+kept_front job below (r ∷ rs) rise h = go (is_key_below r.key (first_at job below)) refl (kept_front job below rs rise.1 h.1)
+  where
+    go : (b : Bool) → is_key_below r.key (first_at job below) ≡ b → filter (is_kept job below) rs ≡ drop (keys_below (first_at job below) rs) rs → filter (is_kept job below) (r ∷ rs) ≡ drop (keys_below (first_at job below) (r ∷ rs)) (r ∷ rs)
+    go true e ih =
+        cond-false (is_kept job below r) _ _ (ap not (older_is job below r.key.job r.key.version ∙ middle_in job 0 below r.key h.0 e))
+        ∙ ih
+        ∙ sym (ap (λ (n : ℕ). drop n (r ∷ rs)) (cond-true _ (suc (keys_below (first_at job below) rs)) zero e))
+    go false e ih =
+        kept_all job below (r ∷ rs) (e, none_below (first_at job below) r.key rs rise.0 e)
+        ∙ sym (ap (λ (n : ℕ). drop n (r ∷ rs)) (cond-false _ (suc (keys_below (first_at job below) rs)) zero e))
+
+abbrev pub without_cut : ℕ → ℕ → List Row → List Row
+without_cut first last rows = take first rows ++ drop last rows
+
+-- a job's first key of all comes before the later ones
+up_below : (job below : ℕ) (key : Key) → is_key_below key (first_at job 0) ≡ true → (is_key_below key (first_at job below) ≡ true) × (is_older job below key.job key.version ≡ false)
+up_below job below key h = elim (below_is key (first_at job 0) h) [
+  | inl lt ↦ (below_from key (first_at job below) (inl lt), rw (ne_eqb key.job job (λ e. omega arith)) refl)
+  | inr p ↦ (let lt = before_start key.version key.part 0 p.1 in absurd (omega arith))
+]
+
+pub kept_cut : (job below : ℕ) (rows : List Row) → AreRising rows → filter (is_kept job below) rows ≡ without_cut (keys_below (first_at job 0) rows) (keys_below (first_at job below) rows) rows
+kept_cut job below [] rise = refl
+kept_cut job below (r ∷ rs) rise = go (is_key_below r.key (first_at job 0)) refl (kept_cut job below rs rise.1)
+  where
+    go : (b : Bool) → is_key_below r.key (first_at job 0) ≡ b
+        → filter (is_kept job below) rs ≡ without_cut (keys_below (first_at job 0) rs) (keys_below (first_at job below) rs) rs
+        → filter (is_kept job below) (r ∷ rs) ≡ without_cut (keys_below (first_at job 0) (r ∷ rs)) (keys_below (first_at job below) (r ∷ rs)) (r ∷ rs)
+    go true e ih =
+        let up = up_below job below r.key e in
+        cond-true (is_kept job below r) _ _ (ap not up.1)
+        ∙ ap (λ (rows : List Row). r ∷ rows) ih
+        ∙ sym (
+          ap (λ (n : ℕ). without_cut n (keys_below (first_at job below) (r ∷ rs)) (r ∷ rs)) (cond-true _ (suc (keys_below (first_at job 0) rs)) zero e)
+          ∙ ap (λ (n : ℕ). without_cut (suc (keys_below (first_at job 0) rs)) n (r ∷ rs)) (cond-true _ (suc (keys_below (first_at job below) rs)) zero up.0)
+        )
+    go false e ih =
+        kept_front job below (r ∷ rs) rise (e, none_below (first_at job 0) r.key rs rise.0 e)
+        ∙ sym (ap (λ (n : ℕ). without_cut n (keys_below (first_at job below) (r ∷ rs)) (r ∷ rs)) (cond-false _ (suc (keys_below (first_at job 0) rs)) zero e))
+
+-- nothing is cut where the places are the same or turned
+pub cut_none : (job below : ℕ) (rows : List Row) → AreRising rows → keys_below (first_at job below) rows ≤ keys_below (first_at job 0) rows → filter (is_kept job below) rows ≡ rows
+cut_none job below [] rise le = refl
+cut_none job below (r ∷ rs) rise le = go (is_key_below r.key (first_at job 0)) refl (is_key_below r.key (first_at job below)) refl (cut_none job below rs rise.1)
+  where
+    go : (b : Bool) → is_key_below r.key (first_at job 0) ≡ b → (d : Bool) → is_key_below r.key (first_at job below) ≡ d
+        → (keys_below (first_at job below) rs ≤ keys_below (first_at job 0) rs → filter (is_kept job below) rs ≡ rs)
+        → filter (is_kept job below) (r ∷ rs) ≡ r ∷ rs
+    go true e d f ih =
+        let up = up_below job below r.key e in
+        let one = cond-true _ (suc (keys_below (first_at job 0) rs)) zero e in
+        let two = cond-true _ (suc (keys_below (first_at job below) rs)) zero up.0 in
+        cond-true (is_kept job below r) _ _ (ap not up.1) ∙ ap (λ (rows : List Row). r ∷ rows) (ih (omega (arith, one, two)))
+    go false e true f ih =
+        absurd (let one = cond-false _ (suc (keys_below (first_at job 0) rs)) zero e in let two = cond-true _ (suc (keys_below (first_at job below) rs)) zero f in omega (arith, one, two))
+    go false e false f ih = kept_all job below (r ∷ rs) (f, none_below (first_at job below) r.key rs rise.0 f)
+
+-- ---- of a slice of the same rows
+
+pub place_in : (key : Key) (rows slice : List Row) (place : ℕ) → slice ≡ rows → place ≡ keys_below key slice → place ≡ keys_below key rows
+place_in key rows slice place same is = is ∙ ap (keys_below key) same
+
+pub cut_here : (job below : ℕ) (rows slice other : List Row) (first last : ℕ) → AreRising rows → slice ≡ rows → other ≡ rows → first ≡ keys_below (first_at job 0) slice → last ≡ keys_below (first_at job below) other → without_cut first last rows ≡ filter (is_kept job below) rows
+cut_here job below rows slice other first last rise same too is to =
+    ap (λ (n : ℕ). without_cut n last rows) (place_in (first_at job 0) rows slice first same is)
+    ∙ ap (λ (n : ℕ). without_cut (keys_below (first_at job 0) rows) n rows) (place_in (first_at job below) rows other last too to)
+    ∙ sym (kept_cut job below rows rise)
+
+pub uncut_here : (job below : ℕ) (rows slice other : List Row) (first last : ℕ) → AreRising rows → slice ≡ rows → other ≡ rows → first ≡ keys_below (first_at job 0) slice → last ≡ keys_below (first_at job below) other → last ≤ first → rows ≡ filter (is_kept job below) rows
+uncut_here job below rows slice other first last rise same too is to le =
+    let one = place_in (first_at job 0) rows slice first same is in
+    let two = place_in (first_at job below) rows other last too to in
+    sym (cut_none job below rows rise (omega (arith, one, two, le)))

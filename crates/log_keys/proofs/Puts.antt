@@ -8,7 +8,7 @@ use Rattle.mutations.specs.declared.mutation.Mutation.{Mutation}
 use Rattle.mutations.specs.Reading.{decoded}
 use Rattle.mutations.proofs.Spellings.{decoded_again}
 use Rattle.mutations.proofs.Basics.{by_test, all_weaker}
-use Rattle.log_keys.specs.Keys.{Key, is_key_below}
+use Rattle.log_keys.specs.Keys.{Key, first_at, is_key_below}
 use Rattle.log_keys.specs.Logs.{Standing, Spells, IsBatch, with_one, stands}
 use Rattle.log_keys.specs.Parts.{Row, rows_from, spelled, pieces_with, pieces_of}
 use Rattle.log_keys.specs.Table.{Group, standing_of, muts_or_none, muts_in, log_in, rows_of, IsRead, is_group_before, AreInOrder, IsWhole, IsTable, keys_below}
@@ -20,7 +20,7 @@ with_group group [] = group ∷ []
 with_group group (other ∷ others) = cond (is_group_before group.job group.version other) (other ∷ with_group group others) (group ∷ other ∷ others)
 
 abbrev first_key : Group → Key
-first_key group = record { job = group.job; version = group.version; part = 0 }
+first_key group = first_at group.job group.version
 
 -- not of the job and version
 abbrev AreOthers : ℕ → ℕ → List Group → Type 0
@@ -143,11 +143,8 @@ read_is bytes b = (b.0, read_of bytes b.0 b.1)
 
 -- ---- the table
 
-abbrev pub key_at : ℕ → ℕ → Key
-key_at job version = record { job = job; version = version; part = 0 }
-
 abbrev pub put_rows : ℕ → ℕ → ℕ → Bytes → List Row → List Row
-put_rows job version part batch rows = take (keys_below (key_at job version) rows) rows ++ rows_from job version 0 (pieces_of part batch) ++ drop (keys_below (key_at job version) rows) rows
+put_rows job version part batch rows = take (keys_below (first_at job version) rows) rows ++ rows_from job version 0 (pieces_of part batch) ++ drop (keys_below (first_at job version) rows) rows
 
 others_in : (job version : ℕ) (rows : List Row) → (t : IsTable rows) → stands job version (log_in rows) ≡ false → AreOthers job version t.groups
 others_in job version rows t free = others_from job version t.groups (ap (stands job version) (sym (log_is rows t)) ∙ free)
@@ -157,7 +154,7 @@ table_with job version part batch rows some read t free =
     let group = group_at job version part batch in
     let others = others_in job version rows t free in
     table_of (put_rows job version part batch rows) (with_group group t.groups)
-    (ap (with_rows (key_at job version) (rows_of group)) t.are ∙ rows_with group t.groups t.whole others)
+    (ap (with_rows (first_at job version) (rows_of group)) t.are ∙ rows_with group t.groups t.whole others)
     (order_with group t.groups t.order others)
     (all_with IsWhole group t.groups (group_is job version part batch some (read_is batch read)) t.whole)
 

@@ -27,6 +27,10 @@ key_bytes key = prefix ++ to_be_bytes w64 key.job ++ to_be_bytes w64 key.version
 unfoldable pub key_in : Bytes → Key
 key_in bytes = record { job = from_be_bytes w64 (take 8 (drop 8 bytes)); version = from_be_bytes w64 (take 8 (drop 16 bytes)); part = from_be_bytes w32 (drop 24 bytes) }
 
+-- the first key of a job and a version
+abbrev pub first_at : ℕ → ℕ → Key
+first_at job version = record { job = job; version = version; part = 0 }
+
 -- by job, then by version, then by part
 abbrev pub is_key_below : Key → Key → Bool
 is_key_below a b = nat_lt a.job b.job || ((a.job == b.job) && (nat_lt a.version b.version || ((a.version == b.version) && nat_lt a.part b.part)))

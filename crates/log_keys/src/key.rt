@@ -2,9 +2,9 @@
 
 ghost use Rattle.std.specs.Prelude.{◌≡◌, ◌+◌, ◌≤◌, length, take, drop, IfOk};
 ghost use Rattle.std.specs.Int.{from_be_bytes, w64};
-ghost use Rattle.log_keys.specs.Keys.{key_bytes, is_key_below};
+ghost use Rattle.log_keys.specs.Keys.{key_bytes};
 
-use fb_bytes::{Blob, is_below};
+use fb_bytes::Blob;
 use std::alloc::{AllocError, Global};
 use std::marker::Model;
 
@@ -53,13 +53,6 @@ impl LogKey {
         ensures { result ≡ self.now.version }
     {
         number_at(self.bytes.as_slice(), 16)
-    }
-
-    /// Whether this key comes before another, in byte order.
-    pub fn is_below(&self, other: &LogKey) -> bool
-        ensures { result ≡ is_key_below self.now other.now }
-    {
-        is_below(self.bytes.as_slice(), other.bytes.as_slice())
     }
 }
 

@@ -3,7 +3,6 @@ ghost use Rattle.mutations.specs.declared.mutation.Mutation.{Mutation};
 ghost use Rattle.log_keys.specs.Logs.{IsBatch, Spells, AreOrdered, stands, with_one, batches_between, erased, without};
 
 use crate::joining::{all_joined, batches_of};
-use crate::key::LogKey;
 use crate::row::Row;
 use crate::table::{erase, has_part, insert_all, parts_of, place_of, retract, rows_between};
 use mutations::LogChunk;
@@ -72,8 +71,7 @@ impl LogKeys {
     {
         let alloc = *self.rows.allocator();
         let more = parts_of(alloc, job, version, batch, part)?;
-        let key = LogKey::new(alloc, job, version, 0)?;
-        let place = place_of(&self.rows, &key);
+        let place = place_of(&self.rows, job, version);
         insert_all(&mut self.rows, place, more)?;
         Ok(())
     }
@@ -83,7 +81,7 @@ impl LogKeys {
         ensures { IfOk result (λ chunk. chunk ≡ record { begin = begin; end = end; batches = batches_between job begin end self.now }) }
     {
         let alloc = *self.rows.allocator();
-        let rows = rows_between(alloc, &self.rows, job, begin, end)?;
+        let rows = rows_between(&self.rows, job, begin, end);
         let wholes = all_joined(alloc, rows)?;
         let batches = batches_of(alloc, &wholes)?;
         Ok(LogChunk {

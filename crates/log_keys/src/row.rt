@@ -1,5 +1,5 @@
 ghost use Rattle.std.specs.Prelude.{◌≡◌, ◌==◌, ◌&&◌};
-ghost use Rattle.log_keys.specs.Logs.{is_older};
+ghost use Rattle.log_keys.specs.Keys.{first_at, is_key_below};
 
 use crate::key::LogKey;
 use fb_bytes::Blob;
@@ -12,11 +12,11 @@ pub struct Row {
 }
 
 impl Row {
-    /// Whether it is of the job and of a version before `below`.
-    pub fn is_older(&self, job: u64, below: u64) -> bool
-        ensures { result ≡ is_older job below self.now.key.job self.now.key.version }
+    /// Whether it comes before the parts of the job and the version.
+    pub fn is_before(&self, job: u64, version: u64) -> bool
+        ensures { result ≡ is_key_below self.now.key (first_at job version) }
     {
-        self.key.job() == job && self.key.version() < below
+        self.key.job() < job || self.key.job() == job && self.key.version() < version
     }
 
     /// Whether it is of the job and of the version.

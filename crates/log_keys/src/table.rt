@@ -2,6 +2,7 @@
 
 ghost use Rattle.std.specs.Prelude.{◌≡◌, ◌+◌, ◌*◌, ◌<◌, ◌≤◌, ◌^◌, ◌==◌, ◌&&◌, not, ◌++◌, length, take, drop, IfOk, OnOk, OnErr};
 ghost use Rattle.std.specs.List.{filter};
+ghost use Rattle.log_keys.specs.Keys.{first_at};
 ghost use Rattle.log_keys.specs.Logs.{is_older};
 ghost use Rattle.log_keys.specs.Parts.{rows_from, pieces_of};
 ghost use Rattle.log_keys.specs.Table.{AreRising, keys_below, has_part, rows_between};
@@ -46,43 +47,36 @@ fn row_of(alloc: Global, job: u64, version: u64, part: u32, piece: &[u8]) -> Res
     Ok(Row { key, piece })
 }
 
-/// How many keys at the front are below a key.
-pub fn place_of(rows: &[Row], key: &LogKey) -> usize
+/// How many parts at the front come before those of a job and a version. It halves.
+pub fn place_of(rows: &[Row], job: u64, version: u64) -> usize
     requires { AreRising rows.now }
-    ensures place { result ≡ keys_below key.now rows.now }
+    ensures place { result ≡ keys_below (first_at job version) rows.now }
     ensures within { result ≤ length rows.now }
 {
-    rows.partition_point(|row| row.key.is_below(key))
+    rows.partition_point(|row| row.is_before(job, version))
 }
 
 /// The parts of a job from the version `begin` on and before `end`, which stand side by side.
-pub fn rows_between(
-    alloc: Global,
-    rows: &[Row],
-    job: u64,
-    begin: u64,
-    end: u64,
-) -> Result<&[Row], AllocError>
+pub fn rows_between(rows: &[Row], job: u64, begin: u64, end: u64) -> &[Row]
     requires { AreRising rows.now }
-    ensures { IfOk result (λ found. found.now ≡ rows_between job begin end rows.now) }
+    ensures { result.now ≡ rows_between job begin end rows.now }
 {
-    let begin = LogKey::new(alloc, job, begin, 0)?;
-    let end = LogKey::new(alloc, job, end, 0)?;
-    let first = place_of(rows, &begin);
-    let last = place_of(rows, &end);
-    Ok(&rows[first..first.max(last)])
+    let first = place_of(rows, job, begin);
+    let last = place_of(rows, job, end);
+    &rows[first..first.max(last)]
 }
 
 /// Whether some part is of the job and the version.
 pub fn has_part(rows: &[Row], job: u64, version: u64) -> bool
+    requires { AreRising rows.now }
     ensures { result ≡ has_part job version rows.now }
 {
-    for row in rows {
-        if row.is_of(job, version) {
-            return true;
-        }
+    let place = place_of(rows, job, version);
+    if place < rows.len() {
+        rows[place].is_of(job, version)
+    } else {
+        false
     }
-    false
 }
 
 /// Puts rows in at a place. Without memory nothing changes.
@@ -98,11 +92,28 @@ pub fn insert_all(rows: &mut Vec<Row>, place: usize, more: Vec<Row>) -> Result<(
     Ok(())
 }
 
-/// Takes the parts of a job out that are of versions before `below`.
+/// Takes the parts of a job out that are of versions before `below`, which stand side by side.
 pub fn erase(rows: &mut Vec<Row>, job: u64, below: u64)
+    requires { AreRising rows.old.items }
     ensures { rows.new.items ≡ filter (λ row. not (is_older job below row.key.job row.key.version)) rows.old.items }
 {
-    rows.retain(|row| !row.is_older(job, below));
+    let first = place_of(rows, job, 0);
+    let last = place_of(rows, job, below);
+    if first < last {
+        cut(rows, first, last);
+    }
+}
+
+/// Takes out what stands at the places from `first` on and before `last`.
+fn cut(rows: &mut Vec<Row>, first: usize, last: usize)
+    requires ordered { first ≤ last }
+    requires within { last ≤ length rows.old.items }
+    ensures { rows.new.items ≡ take first rows.old.items ++ drop last rows.old.items }
+{
+    let count = last - first;
+    let rest = rows.len() - count;
+    rows[first..].rotate_left(count);
+    rows.truncate(rest);
 }
 
 /// Takes the parts of a version out.

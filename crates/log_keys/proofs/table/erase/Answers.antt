@@ -1,6 +1,21 @@
-use Rattle.std.proofs.Common.{rules}
-use Rattle.std.proofs.lemmas.Fn.{filter_same}
+use Rattle.std.proofs.Common.{sym, ◌∙◌, subst, arith, length, ap}
+use Rattle.log_keys.specs.Table.{AreRising}
+use Rattle.log_keys.proofs.Places.{cut_here, uncut_here}
 use Rattle.log_keys.proofs.table.erase.Goals as goal
 
-pub returns : goal.returns
-returns c = filter_same _ _ _ (λ x b f' k. search rules) _ _ c.retain.ensures.filtered
+pub place_of-first-requires : goal.place_of-first-requires
+place_of-first-requires c = subst AreRising (sym c.deref.ensures.value) c.requires
+
+pub place_of-last-requires : goal.place_of-last-requires
+place_of-last-requires c = subst AreRising (sym c.deref-2.ensures.value) c.requires
+
+pub returns-then-first-last : goal.returns-then-first-last
+returns-then-first-last c =
+    c.cut.ensures
+    ∙ cut_here c.args.job c.args.below c.args.rows.now.items c.deref.result.now c.deref-2.result.now c.place_of-first.result c.place_of-last.result
+    c.requires c.deref.ensures.value c.deref-2.ensures.value c.place_of-first.ensures.place c.place_of-last.ensures.place
+
+pub returns-else-first-last : goal.returns-else-first-last
+returns-else-first-last c =
+    uncut_here c.args.job c.args.below c.args.rows.now.items c.deref.result.now c.deref-2.result.now c.place_of-first.result c.place_of-last.result
+    c.requires c.deref.ensures.value c.deref-2.ensures.value c.place_of-first.ensures.place c.place_of-last.ensures.place c.if-first-last.false
