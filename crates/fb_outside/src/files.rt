@@ -1,4 +1,4 @@
-ghost use Rattle.std.specs.Prelude.{◌≡◌, ◌↔◌, ◌<◌, not, List, [], length, position, get_or, Some, None, IsTrue, IfOk, OnOk, OnErr, MatchOption};
+ghost use Rattle.std.specs.Prelude.{◌≡◌, ◌↔◌, ◌<◌, not, List, [], length, position, get_or, slice_set, Some, None, IsTrue, IfOk, OnOk, OnErr, MatchOption};
 ghost use Rattle.std.specs.List.{position_or_len};
 ghost use Rattle.fb_bytes.specs.Bytes as bytes;
 ghost use Rattle.fb_outside.specs.Files as words;
@@ -113,7 +113,7 @@ impl Files {
     {
         let at = place_of(&self.files, file.name.as_bytes());
         if is_at(&self.files, at, file.name.as_bytes()) {
-            self.files[at] = file;
+            replace(&mut self.files, at, file);
         } else {
             self.files.insert(at, file)?;
         }
@@ -166,6 +166,14 @@ fn is_at(files: &[File], at: usize, name: &[u8]) -> bool
         Some(file) => is_same(file.name.as_bytes(), name),
         None => false,
     }
+}
+
+// Puts the file in place of the one at a place.
+fn replace(files: &mut Vec<File>, at: usize, file: File)
+    requires { at < length files.old.items }
+    ensures { files.new.items ≡ slice_set files.old.items at file }
+{
+    files[at] = file;
 }
 
 fn remove_name(files: &mut Vec<File>, name: &[u8])

@@ -8,7 +8,8 @@ returns-then-is_at-clause-ok c =
     let files = c.self.inside.files.items in
     let name = c.args.file.name in
     let at = same_place files c.deref.result.now name c.as_bytes.result.now c.place_of-at.result c.deref.ensures.value c.as_bytes.ensures c.place_of-at.ensures in
-    put_found files c.deref-2.result.now name c.as_bytes-2.result.now c.args.file.bytes c.place_of-at.result c.args.file c.deref-2.ensures.value c.as_bytes-2.ensures
+    c.replace.ensures
+    ∙ put_found files c.deref-2.result.now name c.as_bytes-2.result.now c.args.file.bytes c.place_of-at.result c.args.file c.deref-2.ensures.value c.as_bytes-2.ensures
     c.is_at.result at c.if-is_at.true c.is_at.ensures.within c.is_at.ensures.same
     ∙ ap (λ fs. with_file fs name c.args.file.bytes) c.self.view_is
 
