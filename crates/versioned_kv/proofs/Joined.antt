@@ -256,9 +256,3 @@ put_some key row (c ∷ cs) = by_test (is_below c.key key) (λ (xs : List Chain)
 
 pub put_filled : (key : Bytes) (row : Row) (place : ℕ) (chunks : List (List Chain)) (chunk : List Chain) → AreFilled chunks → AreFilled (slice_set chunks place (put_at key row chunk))
 put_filled key row place chunks chunk h = filled_set place chunks (put_at key row chunk) h (put_some key row chunk)
-
--- a chunk that is put back as it was
-pub set_same : (place : ℕ) (chunks : List (List Chain)) (chunk : List Chain) → slice_get chunks place ≡ Some chunk → slice_set chunks place chunk ≡ chunks
-set_same place [] chunk g = cc
-set_same zero (x ∷ xs) chunk g = let same : x ≡ chunk = cc in ap (λ (c : List Chain). c ∷ xs) (sym same)
-set_same (suc place) (x ∷ xs) chunk g = ap (λ (cs : List (List Chain)). x ∷ cs) (set_same place xs chunk g)

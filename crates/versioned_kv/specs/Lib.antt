@@ -7,3 +7,4 @@ pub mod Sound
 pub mod Forgotten
 pub mod Pages
 pub mod Laws
+pub mod Lends

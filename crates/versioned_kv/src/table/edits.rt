@@ -24,11 +24,10 @@ impl Table<Row> {
     {
         if self.ends_at(row.version, steps) {
             let last = self.len() - 1;
-            self.items[last] = row;
+            self.set(last, row);
             return Ok(());
         }
-        self.items.push(row)?;
-        Ok(())
+        self.push(row)
     }
 
     /// Takes the row of a version away, which isn't past it.
@@ -39,7 +38,7 @@ impl Table<Row> {
     {
         if self.ends_at(version, steps) {
             let rest = self.len() - 1;
-            self.items.truncate(rest);
+            self.truncate(rest);
         }
     }
 
@@ -50,9 +49,7 @@ impl Table<Row> {
     {
         let upto = self.place_past(oldest, steps);
         if upto > 1 {
-            let rest = self.items.len() - (upto - 1);
-            self.items.rotate_left(upto - 1);
-            self.items.truncate(rest);
+            self.drop_front(upto - 1);
         }
     }
 
@@ -74,13 +71,10 @@ impl Chain {
     pub fn of_row(alloc: Global, key: &[u8], row: Row) -> Result<Self, AllocError>
         ensures { IfOk result (λ chain. chain ≡ record { key = key.now; rows = row ∷ [] }) }
     {
-        let mut rows = Vec::new(alloc);
+        let mut rows = Table::new(alloc);
         rows.push(row)?;
         let key = Blob::from_slice(alloc, key)?;
-        Ok(Chain {
-            key,
-            rows: Table { items: rows },
-        })
+        Ok(Chain { key, rows })
     }
 }
 
@@ -118,12 +112,11 @@ impl Table<Chain> {
     {
         let place = self.place_of(key, steps);
         if self.is_at(place, key, steps) {
-            let chain = &mut self.items[place];
+            let chain = self.at_mut(place, steps);
             return chain.rows.put(row, steps);
         }
-        let chain = Chain::of_row(*self.items.allocator(), key, row)?;
-        self.items.insert(place, chain)?;
-        Ok(())
+        let chain = Chain::of_row(self.allocator(), key, row)?;
+        self.insert(place, chain)
     }
 
     /// Whether the chain at a place, if there is one, is that of the key.
@@ -149,7 +142,7 @@ impl Table<Chain> {
         ensures ok { OnOk result ((chain : Chain) → slice_get self.old place ≡ Some chain → self.new ≡ slice_set self.old place (clear_chain version chain)) }
         ensures err { OnErr result (self.new ≡ self.old) }
     {
-        let chain = &mut self.items[place];
+        let chain = self.at_mut(place, steps);
         chain.clear(version, steps)
     }
 
@@ -180,11 +173,11 @@ impl Table<Chain> {
         requires rows { (chain : Chain) → slice_get self.old place ≡ Some chain → AreRising chain.rows × AreRowsUpto version chain.rows }
         ensures { (chain : Chain) → slice_get self.old place ≡ Some chain → self.new ≡ take place self.old ++ with_rows chain.key (without_rows version chain.rows) (drop (suc place) self.old) }
     {
-        let chain = &mut self.items[place];
+        let chain = self.at_mut(place, steps);
         chain.rows.cut(version, steps);
         let is_empty = chain.rows.len() == 0;
         if is_empty {
-            self.items.remove(place);
+            self.remove(place);
         }
     }
 
@@ -207,7 +200,7 @@ impl Table<Chain> {
         requires rising { (chain : Chain) → slice_get self.old place ≡ Some chain → AreRising chain.rows }
         ensures { (chain : Chain) → slice_get self.old place ≡ Some chain → self.new ≡ slice_set self.old place (forget_chain oldest chain) }
     {
-        let chain = &mut self.items[place];
+        let chain = self.at_mut(place, steps);
         chain.rows.forget(oldest, steps);
     }
 

@@ -9,23 +9,21 @@ use Rattle.versioned_kv.proofs.table.edits.Table+Chain.cut_at.Goals as goal
 pub returns-then-is_empty : goal.returns-then-is_empty
 returns-then-is_empty g c = λ chain h.
     let place = c.args.place in
-    let here = read_at c.self.inside.items.items c.args.self.now place c.index_mut-chain.result.now c.self.view_is c.requires.place c.index_mut-chain.ensures.value in
-    let same : c.index_mut-chain.result.now ≡ chain = cc (here, h) in
+    let here = c.at_mut-chain.ensures.entry in
+    let same : c.at_mut-chain.result.now ≡ chain = cc (here, h) in
     let left : c.cut.new.self ≡ without_rows c.args.version chain.rows = c.cut.ensures ∙ ap (λ (x : Chain). without_rows c.args.version x.rows) same in
     let none : length (without_rows c.args.version chain.rows) ≡ 0 = ap length (sym left) ∙ sym c.len-is_empty.ensures ∙ c.if-is_empty.true in
-    c.remove.ensures.items
-    ∙ ap (λ (chains : List Chain). remove (slice_set chains place (record { key = c.index_mut-chain.result.now.key; rows = c.cut.new.self })) place) c.self.view_is
-    ∙ cut_gone place c.args.self.now (record { key = c.index_mut-chain.result.now.key; rows = c.cut.new.self }) chain.key (without_rows c.args.version chain.rows) none
+    c.remove.ensures
+    ∙ cut_gone place c.args.self.now (record { key = c.at_mut-chain.result.now.key; rows = c.cut.new.self }) chain.key (without_rows c.args.version chain.rows) none
 
 pub returns-else-is_empty : goal.returns-else-is_empty
 returns-else-is_empty g c = λ chain h.
     let place = c.args.place in
-    let here = read_at c.self.inside.items.items c.args.self.now place c.index_mut-chain.result.now c.self.view_is c.requires.place c.index_mut-chain.ensures.value in
-    let same : c.index_mut-chain.result.now ≡ chain = cc (here, h) in
+    let here = c.at_mut-chain.ensures.entry in
+    let same : c.at_mut-chain.result.now ≡ chain = cc (here, h) in
     let left : c.cut.new.self ≡ without_rows c.args.version chain.rows = c.cut.ensures ∙ ap (λ (x : Chain). without_rows c.args.version x.rows) same in
     let count : length (without_rows c.args.version chain.rows) ≡ c.len-is_empty.result = ap length (sym left) ∙ sym c.len-is_empty.ensures in
     let some : 0 < length (without_rows c.args.version chain.rows) = omega arith in
-    ap (λ (chains : List Chain). slice_set chains place (record { key = c.index_mut-chain.result.now.key; rows = c.cut.new.self })) c.self.view_is
-    ∙ ap (λ (x : Chain). slice_set c.args.self.now place (record { key = x.key; rows = c.cut.new.self })) same
+    ap (λ (x : Chain). slice_set c.args.self.now place (record { key = x.key; rows = c.cut.new.self })) same
     ∙ ap (λ (rows : List Row). slice_set c.args.self.now place (record { key = chain.key; rows = rows })) left
     ∙ cut_stays place c.args.self.now chain.key (without_rows c.args.version chain.rows) c.requires.place some
