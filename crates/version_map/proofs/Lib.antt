@@ -2,3 +2,4 @@ mod Held
 mod Sets
 mod Cuts
 mod Parts
+mod Halves

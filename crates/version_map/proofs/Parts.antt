@@ -12,10 +12,10 @@ use Rattle.version_map.proofs.Cuts.{all_from, none_before}
 
 -- ---- the keys of a piece that are from a key on and before another
 
-begins_from : (begin end : Bytes) (r : KeyRange) → is_below (within begin end r).begin begin ≡ false
+pub begins_from : (begin end : Bytes) (r : KeyRange) → is_below (within begin end r).begin begin ≡ false
 begins_from begin end r = by_test (is_below r.begin begin) (λ z. is_below z begin ≡ false) begin r.begin (λ h. below_itself begin) (λ h. h)
 
-ends_upto : (begin end : Bytes) (r : KeyRange) → is_below end (within begin end r).end ≡ false
+pub ends_upto : (begin end : Bytes) (r : KeyRange) → is_below end (within begin end r).end ≡ false
 ends_upto begin end r = by_test (is_below end r.end) (λ z. is_below end z ≡ false) end r.end (λ h. below_itself end) (λ h. h)
 
 holds_within : (begin end : Bytes) (r : KeyRange) (key : Bytes) → holds (within begin end r) key ≡ ((holds r key && is_below key end) && not (is_below key begin))

@@ -5,6 +5,7 @@ mod keys;
 mod laws;
 mod map;
 mod piece;
+mod places;
 #[cfg(test)]
 mod tests;
 mod versioned;

@@ -5,6 +5,7 @@ ghost use Rattle.version_map.specs.Laws.{ArePartsOf};
 
 use crate::keys::{earlier, later};
 use crate::piece::push_piece;
+use crate::places::{among, version_in};
 use crate::versioned::push_part;
 use crate::{Piece, Versioned};
 use fb_bytes::{Blob, KeyRange, is_below};
@@ -60,12 +61,7 @@ impl VersionMap {
     pub fn at(&self, key: &[u8]) -> Option<u64>
         ensures { result ≡ version_at self.now key.now }
     {
-        for piece in &self.pieces {
-            if piece.range.contains(key) {
-                return Some(piece.version);
-            }
-        }
-        None
+        version_in(&self.pieces, key)
     }
 
     /// The pieces, in the order of their keys.
@@ -84,7 +80,7 @@ impl VersionMap {
     {
         let mut parts = Vec::new(*self.pieces.allocator());
         let mut begin = &range.begin;
-        for piece in &self.pieces {
+        for piece in among(&self.pieces, range) {
             let from = later(begin, &piece.range.begin);
             let to = earlier(&range.end, &piece.range.end);
             if is_below(from.as_slice(), to.as_slice()) {
