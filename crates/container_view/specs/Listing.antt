@@ -3,5 +3,6 @@ use Rattle.std.specs.Prelude.{List, map}
 use Rattle.std.specs.Borrow.{Bor}
 use Rattle.fb_bytes.specs.Bytes.{Bytes}
 
+-- the texts that the references show
 abbrev pub texts : List (Bor Bytes) → List Bytes
 texts names = map (λ name. name.now) names
