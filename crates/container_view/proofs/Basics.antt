@@ -1,13 +1,8 @@
 -- Options, and the best of a list.
 use Rattle.std.proofs.Common.{◌≡◌, Bool, true, false, cond, List, [], ◌∷◌, if◌then◌else◌, Option, Some, None, ◌⊎◌, inl, inr, refl, sym, ap, ◌∙◌, subst}
-use Rattle.fb_bytes.specs.Options.{IsIn, ◌>>=◌, each_of, better_of, best_of}
+use Rattle.fb_bytes.specs.Options.{IsIn, each_of, better_of, best_of}
 use Rattle.mutations.proofs.Basics.{by_test}
-
--- ---- options
-
-pub bind_some : {A B : Type 0} (o : Option A) (f : A → Option B) (y : B) → (o >>= f) ≡ Some y → (x : A) × (o ≡ Some x) × (f x ≡ Some y)
-bind_some None f y e = cc
-bind_some (Some x) f y e = (x, refl, e)
+pub use Rattle.fb_bytes.proofs.Options.{bind_some}
 
 -- ---- each_of
 

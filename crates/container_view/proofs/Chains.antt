@@ -13,7 +13,8 @@ use Rattle.container_view.specs.Folder.{LogFile}
 use Rattle.container_view.specs.Chain.{LogLink, has_version, log_beats, best_log, links}
 use Rattle.container_view.specs.Meaning.{Part, read_link, replayed_parts}
 use Rattle.container_view.specs.Law.{Source, IsHonestLog}
-use Rattle.container_view.proofs.Basics.{bind_some, best_of_in}
+use Rattle.fb_bytes.proofs.Options.{bind_some}
+use Rattle.container_view.proofs.Basics.{best_of_in}
 use Rattle.container_view.proofs.Replays.{replayed_cut}
 
 -- what a chain's next file is

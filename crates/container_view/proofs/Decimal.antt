@@ -8,7 +8,7 @@ use Rattle.fb_bytes.specs.Options.{◌>>=◌}
 use Rattle.file_names.specs.Reading.{number_at}
 use Rattle.file_names.proofs.Numbers.{cond_some, number_found, number_again}
 use Rattle.container_view.specs.Property.{property_of, PropertyLaw}
-use Rattle.container_view.proofs.Basics.{bind_some}
+use Rattle.fb_bytes.proofs.Options.{bind_some}
 
 empty : (bytes : Bytes) → length bytes ≡ 0 → bytes ≡ []
 empty [] e = refl

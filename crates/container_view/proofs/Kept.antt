@@ -18,7 +18,7 @@ use Rattle.container_view.specs.Folder.{RangeFile, LogFile, ManifestFile, Folder
 use Rattle.container_view.specs.Meaning.{Piece, read_range, piece_named}
 use Rattle.container_view.specs.Law.{Source, IsHonestRange, IsHonestLog, IsHonestManifest, IsHonest}
 use Rattle.container_view.specs.Changes.{Inserts, Grows, PutRange, PutLog, PutManifest, Raise, DropRange, DropUnlisted, DropLog, DropManifest, GrowthLaw, ChangeLaw, Reaches, Opens, Waits, Works, LifeLaw}
-use Rattle.container_view.proofs.Basics.{bind_some}
+use Rattle.fb_bytes.proofs.Options.{bind_some}
 use Rattle.container_view.proofs.Faithful.{container_law}
 
 -- ---- lists

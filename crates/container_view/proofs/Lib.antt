@@ -21,3 +21,4 @@ pub mod Sets
 pub mod Begun
 pub mod Runs
 pub mod Bests
+pub mod Search

@@ -18,7 +18,7 @@ use Rattle.container_view.specs.Files.{Grammars, whole_name, name_in, has_no_sla
 use Rattle.container_view.specs.Honest.{listed_by, IsUnlisted}
 use Rattle.container_view.specs.Lookups.{FileLaw}
 use Rattle.container_view.specs.View.{stripped}
-use Rattle.container_view.proofs.Basics.{bind_some}
+use Rattle.fb_bytes.proofs.Options.{bind_some}
 use Rattle.container_view.proofs.Stores.{made, file_inside}
 use Rattle.container_view.proofs.Stripped.{stripped_inside}
 

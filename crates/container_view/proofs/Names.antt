@@ -18,7 +18,7 @@ use Rattle.container_view.specs.Files.{Grammars, as_log, as_manifest, range_file
 use Rattle.container_view.specs.Names.{Link, as_named_log, logs_named, as_named_manifest, manifests_named, folder_named, manifest_name, link_of, named_links, chain_named, AreNamesOf, NamesLaw, seen, first_of, seen_manifest, better_manifest, given_named}
 use Rattle.container_view.specs.declared.logs.Run.{Run}
 use Rattle.container_view.specs.Listed.{reach_in}
-use Rattle.container_view.proofs.Basics.{bind_some}
+use Rattle.fb_bytes.proofs.Options.{bind_some}
 use Rattle.container_view.proofs.Best.{IsOrder, by_end_and_name}
 use Rattle.container_view.proofs.Whole.{chain_law}
 use Rattle.container_view.proofs.Reached.{reach_law}

@@ -23,7 +23,7 @@ use Rattle.container_view.specs.Chain.{chain}
 use Rattle.container_view.specs.Advertised.{chosen}
 use Rattle.container_view.specs.Meaning.{Piece, Part, overlaps, overlaps_any, are_disjoint, piece_of, value_at, replayed_parts, piece_named, read_chain, Needed, needed}
 use Rattle.container_view.specs.Restore.{loads, all_loads, older, applied, all_applied, IsWhole, RestoreLaw, RestoredLaw}
-use Rattle.container_view.proofs.Basics.{bind_some}
+use Rattle.fb_bytes.proofs.Options.{bind_some}
 use Rattle.container_view.proofs.Faithful.{container_law}
 
 -- ---- pairs whose keys rise

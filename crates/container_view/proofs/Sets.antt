@@ -28,17 +28,14 @@ use Rattle.container_view.specs.declared.view.ViewFault.{ViewFault}
 use Rattle.container_view.specs.declared.view.ViewFault.TheVariants as faults
 use Rattle.container_view.specs.declared.view.FileFault.TheVariants as file_faults
 use Rattle.container_view.specs.Sets.{RestoreSet, ◌>>=◌, in_file, property_read, manifest_at, not_restorable, first_unlisted, links_or_none, set_with, set_by, set_of, IsSetOf, IsRangeIn, IsLogIn, SetLaw}
-use Rattle.container_view.proofs.Basics.{bind_some}
+use Rattle.fb_bytes.proofs.Options.{bind_some}
+use Rattle.fb_bytes.proofs.Results.{bind_ok}
 use Rattle.container_view.proofs.Lookups.{found_in, in_inside}
 use Rattle.container_view.proofs.Names.{names_law}
 use Rattle.container_view.proofs.Stores.{made, file_inside}
 use Rattle.container_view.proofs.Whole.{chosen_law}
 
 -- ---- results
-
-bind_ok : {A B : Type 0} (r : Result A ViewFault) (f : A → Result B ViewFault) (y : B) → (r >>= f) ≡ Ok y → (x : A) × (r ≡ Ok x) × (f x ≡ Ok y)
-bind_ok (Ok x) f y e = (x, refl, e)
-bind_ok (Err fault) f y e = absurd cc
 
 bind_again : {A B : Type 0} (r : Result A ViewFault) (f : A → Result B ViewFault) (x : A) → r ≡ Ok x → (r >>= f) ≡ f x
 bind_again r f x e = ap (λ s. s >>= f) e

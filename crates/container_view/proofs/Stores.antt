@@ -18,7 +18,7 @@ use Rattle.container_view.specs.Changes.{Inserts}
 use Rattle.container_view.specs.Property.{property_of}
 use Rattle.container_view.specs.Files.{Grammars, name_in, renamed, inside, as_range, as_log, as_manifest, range_files, log_files, manifest_files, end_of, unreliable_of, folder_of, folder_in}
 use Rattle.container_view.specs.Stores.{OneMore, StoreLaw}
-use Rattle.container_view.proofs.Basics.{bind_some}
+use Rattle.fb_bytes.proofs.Options.{bind_some}
 use Rattle.container_view.proofs.Lists.{same_kinds, one_more}
 use Rattle.container_view.proofs.Files.{file, put_inserts, gone, deletion_inserts, without_none, again, replace, other_file, the_file}
 

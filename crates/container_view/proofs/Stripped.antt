@@ -13,7 +13,7 @@ use Rattle.std.proofs.lemmas.Bool.{or_parts, or_left, or_right}
 use Rattle.mutations.proofs.Lengths.{take_item}
 use Rattle.container_view.specs.Property.{property_of, property_in}
 use Rattle.container_view.proofs.Stores.{file_inside}
-use Rattle.container_view.proofs.Basics.{bind_some}
+use Rattle.fb_bytes.proofs.Options.{bind_some}
 use Rattle.fb_bytes.specs.Bytes.{Bytes, is_same}
 use Rattle.fb_bytes.specs.Options.{◌>>=◌}
 use Rattle.fb_outside.specs.declared.File.{File}

@@ -16,4 +16,5 @@ pub mod Lookups
 pub mod Honest
 pub mod Names
 pub mod Listed
+pub mod Listing
 pub mod Sets

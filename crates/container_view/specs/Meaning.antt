@@ -1,8 +1,9 @@
 -- What a container means at a version: the value of each key.
 use Rattle.std.specs.Prelude.{ℕ, ◌+◌, max, min, Bool, true, false, not, ◌&&◌, ◌||◌, List, [], ◌∷◌, Option, Some, None, if◌then◌else◌}
-use Rattle.fb_bytes.specs.Bytes.{Bytes, is_below, is_same}
+use Rattle.fb_bytes.specs.Bytes.{Bytes, is_same}
 use Rattle.fb_bytes.specs.declared.KeyRange.{KeyRange}
 use Rattle.fb_bytes.specs.Keys.{holds}
+pub use Rattle.fb_bytes.specs.Keys.{overlaps}
 use Rattle.fb_bytes.specs.Options.{◌>>=◌, each_of}
 use Rattle.fb_bytes.specs.declared.Pair.{Pair}
 use Rattle.fb_bytes.specs.Pairs.{value_of}
@@ -41,9 +42,6 @@ read_link link = link.file.content >>= λ batches. Some (record { from = link.fr
 abbrev pub read_chain : Option (List LogLink) → Option (List Part)
 read_chain None = Some []
 read_chain (Some links) = each_of read_link links
-
-abbrev pub overlaps : KeyRange → KeyRange → Bool
-overlaps a b = is_below a.begin b.end && is_below b.begin a.end
 
 abbrev pub overlaps_any : KeyRange → List Piece → Bool
 overlaps_any range [] = false

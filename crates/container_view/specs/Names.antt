@@ -84,14 +84,16 @@ seen found = option_map (λ file. (file.name, file.end)) found
 -- the first of a name with an end and another one
 abbrev pub first_of : Bytes → ℕ → Option (Bytes × ℕ) → Option (Bytes × ℕ)
 first_of name end None = Some (name, end)
-first_of name end (Some other) = if comes_first end name other.1 other.0 then Some (name, end) else Some other
+first_of name end (Some other) =
+    if comes_first end name other.1 other.0 then Some (name, end) else Some other
 
 -- the manifest's name with its end
 abbrev pub seen_manifest : Option ManifestFile → Option (Bytes × ℕ)
 seen_manifest found = option_map (λ m. (m.name, m.end)) found
 
 -- the best manifest that gives the version, of the best so far and one name more
-abbrev pub better_manifest : (ℕ → ℕ) → ℕ → ℕ → Option (Bytes × ℕ) → Bytes → Name → Option (Bytes × ℕ)
+abbrev pub better_manifest :
+    (ℕ → ℕ) → ℕ → ℕ → Option (Bytes × ℕ) → Bytes → Name → Option (Bytes × ℕ)
 better_manifest reach unreliable version best name (Manifest begin end size ticket) =
     if is_given reach unreliable begin end version then first_of name end best else best
 better_manifest reach unreliable version best name (Range snapshot v ticket block) = best

@@ -2,6 +2,7 @@
 use Rattle.std.specs.Prelude.{◌≡◌, ℕ, ◌+◌, List, [], ◌∷◌, map, false, Option, Some, None, Result, Ok, Err, ok_or, unwrap_or, ◌⊎◌, if◌then◌else◌}
 use Rattle.fb_bytes.specs.Bytes.{Bytes}
 use Rattle.fb_bytes.specs.Options.{IsIn}
+pub use Rattle.fb_bytes.specs.Results.{◌>>=◌}
 use Rattle.fb_outside.specs.Files.{AreFiles, file_of}
 use Rattle.fb_outside.specs.declared.File.{File}
 use Rattle.file_names.specs.declared.Name.TheVariants.{Range, Log}
@@ -27,11 +28,6 @@ use Rattle.container_view.specs.Property.{property_in}
 -- a failed call answers a fault of the store, want of memory, or the first fault that reading the files meets
 abbrev pub Fails : {A : Type 0} → ViewFault → Result A ViewFault → Type 0
 Fails fault reading = (fault ≡ faults.VaultFault) ⊎ ((fault ≡ faults.NoMemory) ⊎ (reading ≡ Err fault))
-
-infixl 10 ◌>>=◌
-abbrev pub ◌>>=◌ : {A B : Type 0} → Result A ViewFault → (A → Result B ViewFault) → Result B ViewFault
-(Ok x) >>= f = f x
-(Err fault) >>= f = Err fault
 
 -- what a file says, or its fault
 abbrev pub in_file : {A E : Type 0} → (E → FileFault) → Bytes → Result A E → Result A ViewFault

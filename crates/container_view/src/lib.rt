@@ -3,6 +3,7 @@
 
 mod chaining;
 mod laws;
+mod listing;
 mod logs;
 mod property;
 mod restoring;

@@ -1,10 +1,9 @@
-//! The log files among names, in the order of their begins, and what is looked up in them by halving.
+//! The log files among names, in the order of their begins, and what is found there by halving.
 
-ghost use Rattle.std.specs.Prelude.{◌≡◌, ℕ, List, [], option_map, map, None, IfOk, IfSome, ◌<◌};
+ghost use Rattle.std.specs.Prelude.{◌≡◌, ◌<◌, option_map, None, IfOk, IfSome};
 ghost use Rattle.container_view.specs.Chain as spec;
-ghost use Rattle.container_view.specs.Names.{logs_named, seen};
-ghost use Rattle.container_view.specs.Bounds.{reached};
-ghost use Rattle.container_view.specs.Listed.{IsRisingBy, log_of, log_named, plain_logs, logs_of, bests, better, last_begun, held, runs_of, reach_in};
+ghost use Rattle.container_view.specs.Names.{logs_named};
+ghost use Rattle.container_view.specs.Listed.{IsRisingBy, log_of, log_named, plain_logs, logs_of, bests, better, best_in, runs_of, reach_in, HaveSameBest, TellsBest, TellsReach};
 ghost use Rattle.file_names.specs.Reading.{name_of};
 
 use fb_bytes::{Text, is_below};
@@ -33,7 +32,7 @@ pub(crate) fn best_logs<'a>(
     names: &'a [Text],
 ) -> Result<Vec<NamedLog<'a>>, AllocError>
     ensures rising { IfOk result (λ logs. IsRisingBy (λ log. log.begin) 0 logs.items) }
-    ensures same { IfOk result (λ logs. (version : ℕ) → held version (last_begun (λ log. log.begin) version None (logs_of logs.items)) ≡ seen (spec.best_log (logs_named names.now) version)) }
+    ensures same { IfOk result (λ logs. TellsBest (logs_of logs.items) (logs_named names.now)) }
 {
     let logs = sorted(alloc, names)?;
     with_bests(alloc, &logs)
@@ -42,7 +41,7 @@ pub(crate) fn best_logs<'a>(
 /// The runs of the versions that log files among these names have.
 pub(crate) fn runs(alloc: Global, names: &[Text]) -> Result<Vec<Run>, AllocError>
     ensures rising { IfOk result (λ runs. IsRisingBy (λ run. run.begin) 0 runs.items) }
-    ensures same { IfOk result (λ runs. (from : ℕ) → reach_in runs.items from ≡ reached (logs_named names.now) from) }
+    ensures same { IfOk result (λ runs. TellsReach runs.items (logs_named names.now)) }
 {
     let logs = sorted(alloc, names)?;
     joined(alloc, &logs)
@@ -52,7 +51,7 @@ pub(crate) fn runs(alloc: Global, names: &[Text]) -> Result<Vec<Run>, AllocError
 /// those that have the version.
 pub(crate) fn best_at<'a>(logs: &[NamedLog<'a>], version: u64) -> Option<(&'a Text, u64)>
     requires { IsRisingBy (λ log. log.begin) 0 logs.now }
-    ensures same { option_map (λ x. (x.0.now, x.1)) result ≡ held version (last_begun (λ log. log.begin) version None (logs_of logs.now)) }
+    ensures same { option_map (λ x. (x.0.now, x.1)) result ≡ best_in (logs_of logs.now) version }
     ensures later { IfSome result (λ x. version < x.1) }
 {
     let place = logs.partition_point(|log| log.begin <= version);
@@ -82,7 +81,7 @@ pub(crate) fn reached(runs: &[Run], from: u64) -> u64
 /// The log files among these names in the order of their begins.
 fn sorted<'a>(alloc: Global, names: &'a [Text]) -> Result<Vec<NamedLog<'a>>, AllocError>
     ensures rising { IfOk result (λ logs. IsRisingBy (λ log. log.begin) 0 logs.items) }
-    ensures same { IfOk result (λ logs. (version : ℕ) → seen (spec.best_log (logs_of logs.items) version) ≡ seen (spec.best_log (logs_named names.now) version)) }
+    ensures same { IfOk result (λ logs. HaveSameBest (logs_of logs.items) (logs_named names.now)) }
 {
     let mut logs = parsed(alloc, names)?;
     logs.sort_by_key(|log| log.begin)?;

@@ -12,7 +12,7 @@ ghost use Rattle.fb_outside.specs.Faults.{Counts};
 ghost use Rattle.fb_outside.specs.declared.File.{File};
 
 use crate::chaining::chain_past;
-use crate::view::is_named;
+use crate::listing::{in_order, is_listed};
 use crate::{
     Bounds, FileFault, Links, ViewFault, get_property, list_names, manifest_for, restorable,
     whole_name,
@@ -21,7 +21,7 @@ use fb_bytes::{Blob, Names, Text};
 use fb_outside::Vault;
 use file_names::parse;
 use manifests::{Manifest, ManifestFault};
-use std::alloc::Global;
+use std::alloc::{AllocError, Global};
 
 /// What a restore of a version needs: the chosen manifest, the names of its range files in its order,
 /// and the links of the log that go from its begin past the version.
@@ -167,7 +167,7 @@ fn set_with(
     ensures ok { IfOk result (λ set. spec.set_with names.now manifest version (spec.first_unlisted names.now manifest.files) ≡ Ok set) }
     ensures err { IfErr result (λ fault. (fault ≡ faults.NoMemory) ⊎ (spec.set_with names.now manifest version (spec.first_unlisted names.now manifest.files) ≡ Err fault)) }
 {
-    if let Some(name) = first_unlisted(names, manifest.files.as_slice()) {
+    if let Some(name) = first_unlisted(alloc, names, manifest.files.as_slice())? {
         let name = name.copy()?;
         return Err(ViewFault::Missing { name });
     }
@@ -184,13 +184,18 @@ fn set_with(
 }
 
 // The first of the wanted names that isn't listed.
-fn first_unlisted<'a>(names: &Names, wanted: &'a [Text]) -> Option<&'a Text>
-    ensures { option_map (λ name. name.now) result ≡ spec.first_unlisted names.now wanted.now }
+fn first_unlisted<'a>(
+    alloc: Global,
+    names: &Names,
+    wanted: &'a [Text],
+) -> Result<Option<&'a Text>, AllocError>
+    ensures { IfOk result (λ found. option_map (λ name. name.now) found ≡ spec.first_unlisted names.now wanted.now) }
 {
+    let listed = in_order(alloc, names.as_slice())?;
     'wanted: for name in wanted {
-        if !is_named(names, name.as_str()) {
-            return Some(name);
+        if !is_listed(&listed, name) {
+            return Ok(Some(name));
         }
     }
-    None
+    Ok(None)
 }
