@@ -150,11 +150,6 @@ impl TxOps {
 
 impl TryCopy for TxOps {
     fn copy(&self) -> Result<Self, AllocError> {
-        let mut ops = Vec::new(*self.ops.allocator());
-        for op in &self.ops {
-            let op = op.copy()?;
-            ops.push(op)?;
-        }
-        Ok(TxOps { ops })
+        TxOps::copy(self)
     }
 }
