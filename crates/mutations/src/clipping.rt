@@ -66,7 +66,7 @@ fn clip_clear(
     Ok(muts)
 }
 
-/// The ranges that a clear may meet, found by halving. It leaves the keys of the others as they are.
+/// The ranges that a clear may meet, found by halving. It leaves the keys of the others alone.
 pub fn met<'a>(begin: &Blob, end: &Blob, ranges: &'a [KeyRange]) -> &'a [KeyRange]
     requires { AreSeparate ranges.now }
     ensures { clear_cut begin.now end.now result.now ≡ clear_cut begin.now end.now ranges.now }

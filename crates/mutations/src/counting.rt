@@ -49,8 +49,7 @@ fn cut_len(begin: &Blob, end: &Blob, range: &KeyRange) -> u128
     }
 }
 
-/// The bytes of the intersections of a clear with the ranges. A count of more than `u128::MAX` stops
-/// there.
+/// The bytes of the intersections of a clear with the ranges. A count past `u128::MAX` stops there.
 fn cleared_len(begin: &Blob, end: &Blob, ranges: &[KeyRange]) -> u128
     requires { AreSeparate ranges.now }
     ensures { result ≡ counted_bytes (clear_cut begin.now end.now ranges.now) }
