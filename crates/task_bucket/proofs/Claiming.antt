@@ -9,7 +9,7 @@ use Rattle.task_bucket.specs.Lists.{Lease, Slot, Lists, slot_with, lease_with, a
 use Rattle.task_bucket.specs.Claims.{slot_of, lease_of, due, not_due, returned_to, returned, chosen, picked, claimed, with_chosen, leased_out, after_claim}
 use Rattle.task_bucket.specs.Held.{slot_in, lease_in, slot_before, lease_before, slots_in, leases_in, lists_in, ArePast, AreRising, until_allows, candidates, is_free, is_idle, place_for, put_held, woken_until, woken, leased_if, put_into}
 use Rattle.std.proofs.lemmas.List.{append-nil, take_all}
-use Rattle.task_bucket.proofs.Mapped.{drop-all}
+use Rattle.fb_bytes.proofs.Mapped.{drop-all}
 use Rattle.task_bucket.proofs.Picks.{picked_in}
 use Rattle.task_bucket.proofs.Views.{lists_same, past_less, past_in, slots_front, leases_front, rising_map}
 

@@ -1,4 +1,4 @@
-pub mod Mapped
+pub mod Finding
 pub mod Parts
 pub mod Picks
 pub mod Views

@@ -11,7 +11,7 @@ use Rattle.task_bucket.specs.Lists.{Lease, Slot, Lists, slot_with, lease_with, a
 use Rattle.task_bucket.specs.Claims.{slot_of, lease_of, due, not_due, returned_to, returned, chosen, picked, claimed, with_chosen, leased_out, after_claim}
 use Rattle.task_bucket.specs.Leases.{retimed, extended_in, retimed_if, retimed_in, finished_in}
 use Rattle.task_bucket.specs.Held.{slot_in, lease_in, slot_before, lease_before, slots_in, leases_in, lists_in, ArePast, AreRising, until_is, held_is, until_allows, candidate, candidates, is_free, is_idle, place_for, put_held, woken, leased_if, retimed_until, retimed_held, first_held, put_into, least_of}
-use Rattle.task_bucket.proofs.Mapped.{drop-all}
+use Rattle.fb_bytes.proofs.Mapped.{drop-all}
 use Rattle.task_bucket.proofs.Picks.{picked_in}
 
 both : List Slot → List Lease → Lists

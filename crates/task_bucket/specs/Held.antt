@@ -73,6 +73,11 @@ abbrev pub place_for : ℕ → List Held → ℕ
 place_for uid [] = 0
 place_for uid (h ∷ hs) = if nat_lt uid h.uid then 0 else place_for uid hs + 1
 
+-- how many have lesser uids, where the uids rise
+abbrev pub lesser_count : ℕ → List Held → ℕ
+lesser_count uid [] = 0
+lesser_count uid (h ∷ hs) = if nat_lt h.uid uid then lesser_count uid hs + 1 else 0
+
 abbrev pub put_held : Held → List Held → List Held
 put_held held [] = held ∷ []
 put_held held (h ∷ hs) = if nat_lt held.uid h.uid then held ∷ h ∷ hs else h ∷ put_held held hs

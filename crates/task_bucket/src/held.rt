@@ -1,7 +1,7 @@
 //! The tasks of a bucket in one list, each available or leased.
 
 ghost use Rattle.std.specs.Prelude.{◌≡◌, ◌==◌, if◌then◌else◌, ℕ, length, map, option_map, option_copied, IfOk, OnOk, OnErr};
-ghost use Rattle.task_bucket.specs.Held.{held_is, candidate, candidates, AreRising, is_free, is_idle, place_for, step_of, slot_in, woken, leased_if, retimed_held, first_held, leases_in, lists_in, least_of};
+ghost use Rattle.task_bucket.specs.Held.{held_is, candidate, candidates, AreRising, is_free, is_idle, place_for, lesser_count, step_of, slot_in, woken, leased_if, retimed_held, first_held, leases_in, lists_in, least_of};
 ghost use Rattle.task_bucket.specs.Lists.{is_leased, least_until};
 ghost use Rattle.task_bucket.specs.Claims.{picked};
 
@@ -91,16 +91,20 @@ pub fn is_idle(held: &[Held]) -> bool
     true
 }
 
-/// The place of the first with a greater uid.
+/// The place of the first with a greater uid. It halves.
 pub fn place_for(held: &[Held], uid: u64) -> usize
+    requires { AreRising held.now }
     ensures { result ≡ place_for uid held.now }
 {
-    for (i, one) in held.iter().enumerate() {
-        if uid < one.uid {
-            return i;
-        }
-    }
-    held.len()
+    held.partition_point(|one| one.uid <= uid)
+}
+
+/// How many have lesser uids: where the task with this uid stands, or would stand. It halves.
+fn place_of(held: &[Held], uid: u64) -> usize
+    requires { AreRising held.now }
+    ensures { result ≡ lesser_count uid held.now }
+{
+    held.partition_point(|one| one.uid < uid)
 }
 
 // The later one, if it isn't past the pick or is the first.
@@ -146,36 +150,46 @@ fn wake(held: &mut [Held], now: u64)
 
 /// Leases the one with this uid.
 pub fn lease_out(held: &mut [Held], uid: u64, until: u64)
+    requires { AreRising held.old }
     ensures { held.new ≡ map (leased_if uid until) held.old }
 {
-    for one in held.iter_mut() {
-        one.lease_if(uid, until);
+    let place = place_of(held, uid);
+    if place < held.len() {
+        held[place].lease_if(uid, until);
     }
 }
 
 /// Gives the lease of this uid until this version another until.
 pub fn retime(held: &mut [Held], until: u64, uid: u64, new: u64)
+    requires { AreRising held.old }
     ensures { held.new ≡ map (retimed_held until uid new) held.old }
 {
-    for one in held.iter_mut() {
-        one.retime_if(until, uid, new);
+    let place = place_of(held, uid);
+    if place < held.len() {
+        held[place].retime_if(until, uid, new);
     }
 }
 
 /// The lease of this uid until this version.
 pub fn find(held: &[Held], until: u64, uid: u64) -> Option<&Held>
+    requires { AreRising held.now }
     ensures { option_copied result ≡ first_held until uid held.now }
 {
-    for one in held {
-        if one.is_lease(until, uid) {
-            return Some(one);
-        }
+    let place = place_of(held, uid);
+    if place >= held.len() {
+        return None;
     }
-    None
+    let one = &held[place];
+    if one.is_lease(until, uid) {
+        Some(one)
+    } else {
+        None
+    }
 }
 
 /// Whether there is a lease of this uid until this version.
 pub fn is_leased(held: &[Held], until: u64, uid: u64) -> bool
+    requires { AreRising held.now }
     ensures { result ≡ is_leased until uid (lists_in held.now) }
 {
     find(held, until, uid).is_some()

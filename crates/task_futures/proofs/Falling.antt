@@ -1,11 +1,13 @@
 -- One way through the list settles all that falls.
-use Rattle.std.proofs.Common.{◌≡◌, ℕ, zero, suc, ◌+◌, ◌<◌, ◌≤◌, Bool, true, false, not, cond, ◌||◌, List, [], ◌∷◌, ◌++◌, length, get_or, set, take, drop, map, ◌-◌, refl, sym, ap, ◌∙◌, append_assoc, arith}
+use Rattle.std.proofs.Common.{◌≡◌, ℕ, zero, suc, ◌+◌, ◌<◌, ◌≤◌, Bool, true, false, not, cond, ◌||◌, List, [], ◌∷◌, ◌++◌, length, get_or, set, take, drop, map, ◌-◌, refl, sym, ap, subst, ◌∙◌, append_assoc, arith}
 use Rattle.std.specs.List.{filter}
 use Rattle.std.proofs.lemmas.List.{append-nil, take_all, take_more}
 use borrow.Rule.Slice.PartMut.{put_mid, mid_of}
 use Rattle.fb_bytes.proofs.Mapped.{drop-all}
 use Rattle.task_futures.specs.Futures.{Part, SeenFuture, is_part, falls, is_some_block, left, kept_joins, passed_on, settled, settle, cleared_by, first_settled, head_settled}
-use Rattle.task_futures.specs.Changes.{cleared, emptied}
+use Rattle.task_futures.specs.Changes.{cleared, emptied, lesser_count}
+use Rattle.task_futures.specs.Laws.{AreRising, HasPassedOn, HavePassedOn, AreFutures}
+use Rattle.task_futures.proofs.Finding.{rising_head, rising_map, passed_open, cleared_there, cleared_none}
 
 left_nothing : (number : ℕ) (bs : List ℕ) → left [] number bs ≡ bs
 left_nothing number [] = refl
@@ -81,10 +83,31 @@ settle_head f fs = ap (λ (bs : List ℕ). record { number = f.number; blocks = 
 
 -- where the way has come to
 pub record Settles (start : List SeenFuture) (i : ℕ) (now : List SeenFuture) : Type 0 where
+  pub rising : AreRising now
   pub same : take i now ++ settle [] (drop i now) ≡ settle [] start
 
-pub settles_first : (start : List SeenFuture) → Settles start 0 start
-settles_first start = record { same = refl }
+still : (f : SeenFuture) (fs : List SeenFuture) (bs : List ℕ) → f.blocks ≡ bs → HasPassedOn bs f.joins → record { number = f.number; blocks = bs; callbacks = f.callbacks; joins = kept_joins bs f.joins } ∷ settle (passed_on bs f.joins []) fs ≡ f ∷ settle [] fs
+still f fs [] is none =
+    ap (λ (js : List Part). record { number = f.number; blocks = []; callbacks = f.callbacks; joins = [] } ∷ settle js fs) none
+    ∙ (λ i. record { number = f.number; blocks = sym is i; callbacks = f.callbacks; joins = sym none i } ∷ settle [] fs)
+still f fs (b ∷ bs) is some = λ i. record { number = f.number; blocks = sym is i; callbacks = f.callbacks; joins = f.joins } ∷ settle [] fs
+
+-- one that has passed on stays as it is
+settle_still : (f : SeenFuture) (fs : List SeenFuture) → HasPassedOn f.blocks f.joins → settle [] (f ∷ fs) ≡ f ∷ settle [] fs
+settle_still f fs h =
+    ap (λ (bs : List ℕ). record { number = f.number; blocks = bs; callbacks = f.callbacks; joins = kept_joins bs f.joins } ∷ settle (passed_on bs f.joins []) fs) (left_nothing f.number f.blocks) ∙ still f fs f.blocks refl h
+
+pub settle_front : (i : ℕ) (fs : List SeenFuture) → HavePassedOn (take i fs) → take i fs ++ settle [] (drop i fs) ≡ settle [] fs
+settle_front zero fs h = refl
+settle_front (suc i) [] h = refl
+settle_front (suc i) (f ∷ fs) h = ap (λ (gs : List SeenFuture). f ∷ gs) (settle_front i fs h.1) ∙ sym (settle_still f fs h.0)
+
+pub settle_nothing : (fs : List SeenFuture) → HavePassedOn fs → settle [] fs ≡ fs
+settle_nothing [] h = refl
+settle_nothing (f ∷ fs) h = settle_still f fs h.0 ∙ ap (λ (gs : List SeenFuture). f ∷ gs) (settle_nothing fs h.1)
+
+pub settles_first : (start : List SeenFuture) (i : ℕ) → AreRising start → HavePassedOn (take i start) → Settles start i start
+settles_first start i r h = record { rising = r; same = settle_front i start h }
 
 head-long : (f : SeenFuture) (fs : List SeenFuture) → 1 ≤ length (head_settled (f ∷ fs))
 head-long f fs = go f.blocks
@@ -101,7 +124,7 @@ further (suc i) (f ∷ now) lt = ap (λ (gs : List SeenFuture). f ∷ gs) (furth
 pub settles_on : (start : List SeenFuture) (i : ℕ) (now new : List SeenFuture) → i < length now → Settles start i now → new ≡ take i now ++ head_settled (drop i now) → Settles start (i + 1) new
 settles_on start i now new lt s is =
     let one : i + 1 ≡ suc i = omega arith in
-    record { same = ap (λ (gs : List SeenFuture). take (i + 1) gs ++ settle [] (drop (i + 1) gs)) is ∙ ap (λ (n : ℕ). take n (take i now ++ head_settled (drop i now)) ++ settle [] (drop n (take i now ++ head_settled (drop i now)))) one ∙ further i now lt ∙ s.same }
+    record { rising = subst AreRising (sym is) (rising_head i now s.rising); same = ap (λ (gs : List SeenFuture). take (i + 1) gs ++ settle [] (drop (i + 1) gs)) is ∙ ap (λ (n : ℕ). take n (take i now ++ head_settled (drop i now)) ++ settle [] (drop n (take i now ++ head_settled (drop i now)))) one ∙ further i now lt ∙ s.same }
 
 pub settles_all : (start : List SeenFuture) (i : ℕ) (now : List SeenFuture) → length now ≤ i → Settles start i now → now ≡ settle [] start
 settles_all start i now le s = sym (append-nil now) ∙ ap (λ (gs : List SeenFuture). gs ++ []) (sym (take_all i now le)) ∙ ap (λ (gs : List SeenFuture). take i now ++ settle [] gs) (sym (drop-all now i le)) ∙ s.same
@@ -146,3 +169,18 @@ clears_on parts i d fs now new lt so_far is =
 
 pub unblocks : (part : Part) (fs now new : List SeenFuture) → now ≡ map (cleared part) fs → new ≡ settle [] now → new ≡ settle (part ∷ []) fs
 unblocks part fs now new e f = f ∙ ap (settle []) (e ∙ cleared-is part fs) ∙ sym (settle_first (part ∷ []) fs)
+
+-- ---- unblocking at a place
+
+pub unblocks_none : (part : Part) (fs : List SeenFuture) → AreFutures fs → length fs ≤ lesser_count part.join fs → fs ≡ settle (part ∷ []) fs
+unblocks_none part fs a le = unblocks part fs fs fs (cleared_none part fs le) (sym (settle_nothing fs a.passed_on))
+
+pub unblocks_open : (part : Part) (fs : List SeenFuture) (i : ℕ) (x d : SeenFuture) → AreFutures fs → i ≡ lesser_count part.join fs → i < length fs → x ≡ cleared part (get_or fs i d) → is_some_block x.blocks ≡ true → set fs i x ≡ settle (part ∷ []) fs
+unblocks_open part fs i x d a is lt e open_ =
+    unblocks part fs (set fs i x) (set fs i x) (cleared_there part fs i x d a.rising is lt e) (sym (settle_nothing (set fs i x) (passed_open i fs x a.passed_on open_)))
+
+pub unblocks_set : (part : Part) (fs : List SeenFuture) (i : ℕ) (x d : SeenFuture) (new : List SeenFuture) → AreFutures fs → i ≡ lesser_count part.join fs → i < length fs → x ≡ cleared part (get_or fs i d) → new ≡ settle [] (set fs i x) → new ≡ settle (part ∷ []) fs
+unblocks_set part fs i x d new a is lt e f = unblocks part fs (set fs i x) new (cleared_there part fs i x d a.rising is lt e) f
+
+pub rising_there : (part : Part) (fs : List SeenFuture) (i : ℕ) (x d : SeenFuture) → AreFutures fs → i ≡ lesser_count part.join fs → i < length fs → x ≡ cleared part (get_or fs i d) → AreRising (set fs i x)
+rising_there part fs i x d a is lt e = subst AreRising (sym (cleared_there part fs i x d a.rising is lt e)) (rising_map (cleared part) (λ f. refl) fs a.rising)

@@ -264,7 +264,7 @@ newly_none (f ∷ fs) = go f.blocks (newly_none fs)
 
 -- ---- all of it
 
-all_kept : (fs : List SeenFuture) → AreFutures fs → AreKept fs
+pub all_kept : (fs : List SeenFuture) → AreFutures fs → AreKept fs
 all_kept fs a = record { fresh = one_more fs (next_number fs) [] (omega arith) a; block = λ number. one_changed number and_block block_keeps fs a; on_set = λ number task. one_changed number (and_callback task) (callback_keeps task) fs a; join = λ parts. all_joined parts fs a; unblock = λ number block. all_settle (record { join = number; block = block } ∷ []) fs a; drop_newest = all_without (greatest_number fs) fs a }
 
 changes_nothing : (number block : ℕ) (fs : List SeenFuture) → AreFutures fs → has_block number block fs ≡ false → ChangesNothing number block fs

@@ -1,3 +1,4 @@
+pub mod Finding
 pub mod Falling
 pub mod Linking
 pub mod Keeping

@@ -1,11 +1,14 @@
 -- The blocks of a join, one part after the other, and the future at a place.
-use Rattle.std.proofs.Common.{◌≡◌, ℕ, zero, suc, ◌+◌, ◌<◌, ◌≤◌, Bool, true, false, cond, ◌||◌, eqb, List, [], ◌∷◌, ◌++◌, length, get_or, set, drop, refl, sym, ap, ◌∙◌, Result, Ok, Err, arith}
+use Rattle.std.proofs.Common.{◌≡◌, ℕ, zero, suc, ◌+◌, ◌<◌, ◌≤◌, Bool, true, false, cond, ◌||◌, eqb, List, [], ◌∷◌, ◌++◌, length, get_or, set, take, drop, refl, sym, ap, subst, ◌∙◌, Result, Ok, Err, arith}
 use Rattle.std.proofs.Math.Seq.{drop-cons}
 use Rattle.std.specs.Prelude.{OnOk, IfOk}
-use Rattle.std.proofs.lemmas.List.{get_or_default}
+use Rattle.std.proofs.lemmas.List.{append-nil, get_or_default, take_all}
 use Rattle.task_kinds.specs.Tasks.{SeenTask}
 use Rattle.task_futures.specs.Futures.{Part, SeenFuture, is_made, blocks_of, changed, place_of, is_open, is_some_block, left, join_blocks, links_of, passed_on, becomes_set, newly_set, settled, settle}
 use Rattle.fb_bytes.proofs.Mapped.{drop-all}
+use Rattle.task_futures.specs.Changes.{lesser_count}
+use Rattle.task_futures.specs.Laws.{AreRising, AreFutures}
+use Rattle.task_futures.proofs.Finding.{made_place}
 
 -- what a future was linked with so far, and what is left of the parts
 pub record Links (old : SeenFuture) (join : ℕ) (parts : List ℕ) (fs : List SeenFuture) (now : SeenFuture) (block : ℕ) (rest : List ℕ) : Type 0 where
@@ -67,3 +70,12 @@ next_at number items fs at old made same is here =
 
 pub same_item : (fs : List SeenFuture) (i : ℕ) (x y : SeenFuture) → i < length fs → x ≡ get_or fs i x → y ≡ get_or fs i y → x ≡ y
 same_item fs i x y lt e f = e ∙ get_or_default fs i x y lt ∙ sym f
+
+-- the place that halving finds is the number's
+pub at_is : (number : ℕ) (fs items slice : List SeenFuture) (at : ℕ) → AreFutures items → items ≡ fs → slice ≡ items → at ≡ lesser_count number slice → is_made number fs ≡ true → at ≡ place_of number fs
+at_is number fs items slice at a view same is made = is ∙ ap (lesser_count number) (same ∙ view) ∙ made_place number fs (subst AreRising view a.rising) made
+
+-- a list that was written whole, as a vector has it
+pub whole : (n : ℕ) (new xs : List SeenFuture) → n ≡ length xs → length new ≡ length xs → take n (new ++ drop (length new) xs) ≡ new
+whole n new xs e f =
+    ap (λ (ys : List SeenFuture). take n (new ++ ys)) (drop-all xs (length new) (omega arith)) ∙ ap (take n) (append-nil new) ∙ take_all n new (omega arith)

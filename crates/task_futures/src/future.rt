@@ -139,11 +139,14 @@ impl Future {
         self.callbacks.push(task)
     }
 
-    /// Takes the block of the part off, where it is this future's.
-    pub fn clear(&mut self, part: Part)
-        ensures { self.new ≡ cleared part self.old }
+    /// Takes the block of the part off, where it is this future's. It says whether the future is open
+    /// then.
+    pub fn clear(&mut self, part: Part) -> bool
+        ensures open { result ≡ is_some_block self.new.blocks }
+        ensures cleared { self.new ≡ cleared part self.old }
     {
         keep_left(&mut self.blocks, self.number, part);
+        self.is_open()
     }
 
     pub fn unlink(&mut self, number: u64)

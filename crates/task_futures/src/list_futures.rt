@@ -1,5 +1,6 @@
 ghost use Rattle.std.specs.Prelude.{◌≡◌, ◌++◌, ◌≤◌, ◌^◌, ◌+◌, ◌==◌, not, [], ◌∷◌, map, List, IfOk, OnOk, if◌then◌else◌};
 ghost use Rattle.std.specs.List.{filter};
+ghost use Rattle.task_futures.specs.Laws.{AreRising};
 ghost use Rattle.task_futures.specs.Futures.{next_number, newly_set, settle, without_newest, join_blocks, linked};
 
 use crate::future::{Future, below_limit};
@@ -19,10 +20,13 @@ pub struct ListFutures {
 impl Model for ListFutures {
     ghost use Rattle.std.specs.Prelude.{List};
     ghost use Rattle.task_futures.specs.Futures.{SeenFuture};
+    ghost use Rattle.task_futures.specs.Laws.{AreFutures};
 
     ghost Value = { List SeenFuture };
 
     ghost view = { λ f. f.futures.items };
+
+    ghost invariant = { λ f. AreFutures f.futures.items };
 }
 
 impl ListFutures {
@@ -38,6 +42,7 @@ impl ListFutures {
 }
 
 fn next_number(futures: &[Future]) -> Result<u64, AllocError>
+    requires { AreRising futures.now }
     ensures { IfOk result (λ n. (n ≡ next_number futures.now) × (n ≤ 2 ^ 62)) }
 {
     below_limit(greatest(futures))
@@ -61,6 +66,7 @@ fn due_in(alloc: Global, futures: &[Future], part: Part) -> Result<Tasks, AllocE
 }
 
 fn blocks_for(alloc: Global, futures: &[Future], parts: &[u64]) -> Result<Vec<u64>, AllocError>
+    requires { AreRising futures.now }
     ensures { IfOk result (λ blocks. blocks.items ≡ join_blocks 1 parts.now futures.now) }
 {
     let mut blocks = Vec::new(alloc);
@@ -75,6 +81,7 @@ fn blocks_for(alloc: Global, futures: &[Future], parts: &[u64]) -> Result<Vec<u6
 }
 
 fn drop_newest(futures: &mut Vec<Future>)
+    requires { AreRising futures.old.items }
     ensures { futures.new.items ≡ without_newest futures.old.items }
 {
     let number = greatest(futures);
@@ -88,7 +95,8 @@ fn linked_all(
     parts: &[u64],
     number: u64,
 ) -> Result<Vec<Future>, AllocError>
-    requires { number ≡ next_number futures.now }
+    requires rising { AreRising futures.now }
+    requires next { number ≡ next_number futures.now }
     ensures { IfOk result (λ all. all.items ≡ map (linked parts.now futures.now) futures.now) }
 {
     let mut all = Vec::new(alloc);
@@ -101,7 +109,8 @@ fn linked_all(
 }
 
 fn link(one: &mut Future, futures: &[Future], parts: &[u64], join: u64) -> Result<(), AllocError>
-    requires { join ≡ next_number futures.now }
+    requires rising { AreRising futures.now }
+    requires next { join ≡ next_number futures.now }
     ensures { OnOk result (one.new ≡ linked parts.now futures.now one.old) }
 {
     let mut block: u64 = 1;
@@ -128,12 +137,14 @@ impl Futures for ListFutures {
 
     fn block(&mut self, future: u64) -> Result<u64, AllocError> {
         let at = place_of(&self.futures, future);
-        self.futures[at].add_block()
+        let block = self.futures[at].add_block()?;
+        Ok(block)
     }
 
     fn on_set(&mut self, future: u64, task: Task) -> Result<(), AllocError> {
         let at = place_of(&self.futures, future);
-        self.futures[at].add_callback(task)
+        self.futures[at].add_callback(task)?;
+        Ok(())
     }
 
     fn join(&mut self, parts: &[u64]) -> Result<u64, AllocError> {

@@ -1,8 +1,9 @@
-//! Changes and looks over a list of futures.
+//! Changes and looks over a list of futures, in the order of their numbers.
 
-ghost use Rattle.std.specs.Prelude.{◌≡◌, ◌<◌, [], ◌∷◌, ◌++◌, map, take, drop, length};
-ghost use Rattle.task_futures.specs.Futures.{greatest_number, place_of, is_open, unjoined, cleared_by, head_settled, settle};
-ghost use Rattle.task_futures.specs.Changes.{cleared};
+ghost use Rattle.std.specs.Prelude.{◌≡◌, ◌≤◌, ◌<◌, ◌==◌, ◌&&◌, [], ◌∷◌, ◌++◌, map, take, drop, length};
+ghost use Rattle.task_futures.specs.Laws.{AreRising, AreFutures, HavePassedOn};
+ghost use Rattle.task_futures.specs.Futures.{greatest_number, is_open, is_some_block, unjoined, cleared_by, head_settled, settle};
+ghost use Rattle.task_futures.specs.Changes.{cleared, lesser_count};
 
 use crate::Part;
 use crate::future::Future;
@@ -10,44 +11,54 @@ use std::alloc::Global;
 
 /// The greatest number of these, or 0.
 pub fn greatest(futures: &[Future]) -> u64
+    requires { AreRising futures.now }
     ensures { result ≡ greatest_number futures.now }
 {
-    let mut greatest: u64 = 0;
-    for one in futures {
-        greatest = greatest.max(one.number());
+    let count = futures.len();
+    if count == 0 {
+        return 0;
     }
-    greatest
+    let last = count - 1;
+    futures[last].number()
 }
 
-/// The place of the future with this number.
+/// How many futures have lesser numbers: where the future with this number stands, or would stand.
+/// It halves.
 pub fn place_of(futures: &[Future], number: u64) -> usize
-    ensures { result ≡ place_of number futures.now }
+    requires { AreRising futures.now }
+    ensures place { result ≡ lesser_count number futures.now }
+    ensures within { result ≤ length futures.now }
 {
-    for (i, one) in futures.iter().enumerate() {
-        if one.number() == number {
-            return i;
-        }
-    }
-    futures.len()
+    futures.partition_point(|one| one.number() < number)
 }
 
 /// Whether the future with this number isn't set.
 pub fn is_open(futures: &[Future], number: u64) -> bool
+    requires { AreRising futures.now }
     ensures { result ≡ is_open number futures.now }
 {
-    for one in futures {
-        if one.number() == number {
-            return one.is_open();
-        }
+    let place = place_of(futures, number);
+    if place < futures.len() {
+        has_open_block(&futures[place], number)
+    } else {
+        false
     }
-    false
 }
 
-fn clear_all(futures: &mut [Future], part: Part)
+fn has_open_block(one: &Future, number: u64) -> bool
+    ensures { result ≡ ((one.now.number == number) && is_some_block one.now.blocks) }
+{
+    one.number() == number && one.is_open()
+}
+
+// Takes a block off, where it is open.
+fn clear(futures: &mut [Future], part: Part)
+    requires { AreRising futures.old }
     ensures { futures.new ≡ map (cleared part) futures.old }
 {
-    for one in futures.iter_mut() {
-        one.clear(part);
+    let place = place_of(futures, part.join);
+    if place < futures.len() {
+        futures[place].clear(part);
     }
 }
 
@@ -60,16 +71,18 @@ pub fn unlink_all(futures: &mut [Future], number: u64)
 }
 
 fn clear_each(futures: &mut [Future], parts: &[Part])
+    requires { AreRising futures.old }
     ensures { futures.new ≡ map (cleared_by parts.now) futures.old }
 {
     for part in parts {
-        clear_all(futures, *part);
+        clear(futures, *part);
     }
 }
 
 // The one at this place passes its joins on, where it is set.
 fn pass_on(alloc: Global, futures: &mut [Future], at: usize)
-    requires { at < length futures.old }
+    requires rising { AreRising futures.old }
+    requires within { at < length futures.old }
     ensures { futures.new ≡ take at futures.old ++ head_settled (drop at futures.old) }
 {
     if futures[at].is_open() {
@@ -80,19 +93,30 @@ fn pass_on(alloc: Global, futures: &mut [Future], at: usize)
     clear_each(&mut futures[behind..], &joins);
 }
 
-fn settle(alloc: Global, futures: &mut [Future])
+// From this place on, those that are set pass their joins on.
+fn settle(alloc: Global, futures: &mut [Future], first: usize)
+    requires rising { AreRising futures.old }
+    requires front { HavePassedOn (take first futures.old) }
     ensures { futures.new ≡ settle [] futures.old }
 {
     let count = futures.len();
-    for i in 0..count {
+    for i in first..count {
         pass_on(alloc, futures, i);
     }
 }
 
 /// Takes a block off, and those of each join that this sets a part of.
 pub fn unblock(alloc: Global, futures: &mut [Future], part: Part)
+    requires { AreFutures futures.old }
     ensures { futures.new ≡ settle (part ∷ []) futures.old }
 {
-    clear_all(futures, part);
-    settle(alloc, futures);
+    let place = place_of(futures, part.join);
+    if place >= futures.len() {
+        return;
+    }
+    let open = futures[place].clear(part);
+    if open {
+        return;
+    }
+    settle(alloc, futures, place);
 }

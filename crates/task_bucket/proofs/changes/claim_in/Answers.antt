@@ -16,6 +16,10 @@ returns-in_default-clause-answer c = sym (none_claimed c.args.now c.args.lease c
 pub returns-in_default-clause-ok : goal.returns-in_default-clause-ok
 returns-in_default-clause-ok c = sym (none_claimed c.args.now c.args.lease c.args.pick c.args.held.now (none c)).1
 
+pub lease_out-requires : goal.lease_out-requires
+lease_out-requires c =
+    (gone_if c.args.now c.args.held.now c.wake_if.new.held c.requires.rising (c.wake_if.ensures ∙ ap (λ b. cond b (map (woken c.args.now) c.args.held.now) c.args.held.now) c.is_idle-idle.ensures)).rising
+
 pub returns-clause-rising : goal.returns-clause-rising
 returns-clause-rising c =
     let g = gone_if c.args.now c.args.held.now c.wake_if.new.held c.requires.rising (c.wake_if.ensures ∙ ap (λ b. cond b (map (woken c.args.now) c.args.held.now) c.args.held.now) c.is_idle-idle.ensures) in

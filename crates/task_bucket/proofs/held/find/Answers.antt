@@ -1,14 +1,12 @@
-use Rattle.std.proofs.Common.{sym, Some, ◌∙◌}
-use Rattle.task_bucket.specs.Held.{held_is, first_held}
-use Rattle.task_bucket.proofs.Mapped.{skips, stops, ends}
-use Rattle.task_bucket.proofs.Parts.{finds}
+use Rattle.std.proofs.Common.{sym, ◌∙◌, arith}
+use Rattle.task_bucket.proofs.Finding.{first_there, first_other, first_none}
 use Rattle.task_bucket.proofs.held.find.Goals as goal
 
-pub loop-one-preserved : goal.loop-one-preserved
-loop-one-preserved c = skips (first_held c.args.until c.args.uid) (held_is c.args.until c.args.uid) (λ h. Some h) (finds c.args.until c.args.uid) c.args.held.now c.loop-one.one-index c.one-item.result c.loop-one-test.true c.one-item.is (sym c.if-is_lease.ensures) c.loop-one.invariant
+pub returns-then-place-held : goal.returns-then-place-held
+returns-then-place-held c = sym (first_none c.args.until c.args.uid c.args.held.now (omega (arith, c.if-place-held.true, c.place_of-place.ensures)))
 
 pub returns-then-is_lease : goal.returns-then-is_lease
-returns-then-is_lease c = stops (first_held c.args.until c.args.uid) (held_is c.args.until c.args.uid) (λ h. Some h) (finds c.args.until c.args.uid) c.args.held.now c.loop-one.one-index c.one-item.result c.loop-one-test.true c.one-item.is (sym c.if-is_lease.ensures) c.loop-one.invariant
+returns-then-is_lease c = sym (first_there c.args.until c.args.uid c.args.held.now c.place_of-place.result _ c.requires c.place_of-place.ensures c.if-place-held.false c.index-held-place.is (sym c.if-is_lease.ensures))
 
-pub returns : goal.returns
-returns c = ends (first_held c.args.until c.args.uid) c.args.held.now c.loop-one.one-index c.loop-one-test.false c.loop-one.invariant
+pub returns-else-is_lease : goal.returns-else-is_lease
+returns-else-is_lease c = sym (first_other c.args.until c.args.uid c.args.held.now c.place_of-place.result _ c.requires c.place_of-place.ensures c.if-place-held.false c.index-held-place.is (sym c.if-is_lease.ensures))

@@ -1,6 +1,6 @@
 use Rattle.std.proofs.Common.{sym, false}
 use Rattle.task_bucket.specs.Held.{is_free, is_idle}
-use Rattle.task_bucket.proofs.Mapped.{skips, stops, ends}
+use Rattle.fb_bytes.proofs.Mapped.{skips, stops, ends}
 use Rattle.task_bucket.proofs.Parts.{idles}
 use Rattle.task_bucket.proofs.held.is_idle.Goals as goal
 

@@ -1,6 +1,6 @@
 use Rattle.std.proofs.Common.{◌∙◌}
 use Rattle.task_bucket.specs.Held.{woken}
-use Rattle.task_bucket.proofs.Mapped.{mapped-step, mapped-all}
+use Rattle.fb_bytes.proofs.Mapped.{mapped-step, mapped-all}
 use Rattle.task_bucket.proofs.held.wake.Goals as goal
 
 pub loop-one-preserved : goal.loop-one-preserved

@@ -1,6 +1,6 @@
 use Rattle.std.proofs.Common.{◌≡◌}
 use Rattle.task_bucket.specs.Held.{woken}
-use Rattle.task_bucket.proofs.Mapped.{mapped}
+use Rattle.fb_bytes.proofs.Mapped.{mapped}
 use Rattle.task_bucket.proofs.held.wake.Given as goal
 
 abbrev pub invariant-loop-one : goal.invariant-loop-one

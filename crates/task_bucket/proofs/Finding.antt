@@ -1,0 +1,154 @@
+-- The place of a task, where the uids rise, and what a change at that place is.
+use Rattle.std.proofs.Common.{◌≡◌, ℕ, zero, suc, ◌+◌, ◌<◌, ◌≤◌, Bool, true, false, cond, ◌&&◌, ltb, leb, eqb, List, [], ◌∷◌, length, get_or, set, map, Option, Some, None, refl, sym, ap, ◌∙◌, arith}
+use Rattle.std.specs.List.Sorted.{IsPartitionedBy, IsPartitionPoint}
+use Rattle.std.proofs.lemmas.Bool.{eqb-true, ne_eqb, lt-ltb, le-ltb, ltb-true, ltb-false, le-leb, leb-true, leb-false}
+use Rattle.task_bucket.specs.declared.held.Held.{Held}
+use Rattle.task_bucket.specs.Held.{ArePast, AreRising, until_is, held_is, first_held, place_for, lesser_count, leased_if, retimed_until, retimed_held}
+
+past_at : (u : ℕ) (hs : List Held) (j : ℕ) (d : Held) → ArePast u hs → j < length hs → u < (get_or hs j d).uid
+past_at u [] j d p lt = absurd (omega arith)
+past_at u (h ∷ hs) zero d p lt = p.0
+past_at u (h ∷ hs) (suc j) d p lt = past_at u hs j d p.1 (omega arith)
+
+pub less_parted : (uid : ℕ) (hs : List Held) → AreRising hs → IsPartitionedBy (λ (h : Held). ltb h.uid uid) hs
+less_parted uid [] r i j d le lt e = absurd (omega arith)
+less_parted uid (h ∷ hs) r zero zero d le lt e = e
+less_parted uid (h ∷ hs) r zero (suc j) d le lt e =
+    let up = past_at h.uid hs j d r.0 (omega arith) in
+    let low = ltb-true (get_or hs j d).uid uid e in
+    lt-ltb h.uid uid (omega (arith, up, low))
+less_parted uid (h ∷ hs) r (suc i) zero d le lt e = absurd (omega arith)
+less_parted uid (h ∷ hs) r (suc i) (suc j) d le lt e = less_parted uid hs r.1 i j d (omega arith) (omega arith) e
+
+pub upto_parted : (uid : ℕ) (hs : List Held) → AreRising hs → IsPartitionedBy (λ (h : Held). leb h.uid uid) hs
+upto_parted uid [] r i j d le lt e = absurd (omega arith)
+upto_parted uid (h ∷ hs) r zero zero d le lt e = e
+upto_parted uid (h ∷ hs) r zero (suc j) d le lt e =
+    let up = past_at h.uid hs j d r.0 (omega arith) in
+    let low = leb-true (get_or hs j d).uid uid e in
+    le-leb h.uid uid (omega (arith, up, low))
+upto_parted uid (h ∷ hs) r (suc i) zero d le lt e = absurd (omega arith)
+upto_parted uid (h ∷ hs) r (suc i) (suc j) d le lt e = upto_parted uid hs r.1 i j d (omega arith) (omega arith) e
+
+suc_is : (n : ℕ) → suc n ≡ n + 1
+suc_is n = omega arith
+
+pub lesser_is : (uid : ℕ) (hs : List Held) (i : ℕ) → i ≤ length hs → IsPartitionPoint (λ (h : Held). ltb h.uid uid ≡ true) (λ (h : Held). ltb h.uid uid ≡ false) hs i → i ≡ lesser_count uid hs
+lesser_is uid [] zero le h = refl
+lesser_is uid [] (suc i) le h = absurd (omega arith)
+lesser_is uid (x ∷ xs) zero le h = sym (ap (λ (b : Bool). cond b (lesser_count uid xs + 1) 0) (h.1 0 x (omega arith) (omega arith)))
+lesser_is uid (x ∷ xs) (suc i) le h =
+    ap suc (lesser_is uid xs i (omega arith) ((λ k d l u. h.0 (suc k) d (omega arith) (omega arith)), (λ k d l u. h.1 (suc k) d (omega arith) (omega arith))))
+    ∙ suc_is (lesser_count uid xs)
+    ∙ sym (ap (λ (b : Bool). cond b (lesser_count uid xs + 1) 0) (h.0 0 x (omega arith) (omega arith)))
+
+pub place_is : (uid : ℕ) (hs : List Held) (i : ℕ) → i ≤ length hs → IsPartitionPoint (λ (h : Held). leb h.uid uid ≡ true) (λ (h : Held). leb h.uid uid ≡ false) hs i → i ≡ place_for uid hs
+place_is uid [] zero le h = refl
+place_is uid [] (suc i) le h = absurd (omega arith)
+place_is uid (x ∷ xs) zero le h =
+    let more = leb-false x.uid uid (h.1 0 x (omega arith) (omega arith)) in
+    sym (ap (λ (b : Bool). cond b 0 (place_for uid xs + 1)) (lt-ltb uid x.uid more))
+place_is uid (x ∷ xs) (suc i) le h =
+    let less = leb-true x.uid uid (h.0 0 x (omega arith) (omega arith)) in
+    ap suc (place_is uid xs i (omega arith) ((λ k d l u. h.0 (suc k) d (omega arith) (omega arith)), (λ k d l u. h.1 (suc k) d (omega arith) (omega arith))))
+    ∙ suc_is (place_for uid xs)
+    ∙ sym (ap (λ (b : Bool). cond b 0 (place_for uid xs + 1)) (le-ltb uid x.uid less))
+
+-- ---- what is found
+
+and_false : (b : Bool) → (b && false) ≡ false
+and_false true = refl
+and_false false = refl
+
+other_is : (until uid : ℕ) (h : Held) → (h.uid ≡ uid → ⊥) → held_is until uid h ≡ false
+other_is until uid h other = ap (λ (b : Bool). until_is until h.until && b) (ne_eqb h.uid uid other) ∙ and_false (until_is until h.until)
+
+first_on : (until uid : ℕ) (h : Held) (hs : List Held) → held_is until uid h ≡ false → first_held until uid (h ∷ hs) ≡ first_held until uid hs
+first_on until uid h hs e = ap (λ (b : Bool). cond b (Some h) (first_held until uid hs)) e
+
+first_past : (until uid u : ℕ) (hs : List Held) → ArePast u hs → uid ≤ u → first_held until uid hs ≡ None
+first_past until uid u [] p le = refl
+first_past until uid u (h ∷ hs) p le = first_on until uid h hs (other_is until uid h (λ e. omega (arith, p.0, e, le))) ∙ first_past until uid u hs p.1 le
+
+-- what stands at the place decides
+first_at : (until uid : ℕ) (hs : List Held) (i : ℕ) (h : Held) → AreRising hs → i ≡ lesser_count uid hs → i < length hs → h ≡ get_or hs i h → first_held until uid hs ≡ cond (held_is until uid h) (Some h) None
+first_at until uid [] i h r is lt here = absurd (omega arith)
+first_at until uid (x ∷ xs) i h r is lt here = go (ltb x.uid uid) refl is (λ j. first_at until uid xs j h r.1)
+  where
+    go : (b : Bool) → ltb x.uid uid ≡ b → i ≡ cond b (lesser_count uid xs + 1) 0
+        → ((j : ℕ) → j ≡ lesser_count uid xs → j < length xs → h ≡ get_or xs j h → first_held until uid xs ≡ cond (held_is until uid h) (Some h) None)
+        → first_held until uid (x ∷ xs) ≡ cond (held_is until uid h) (Some h) None
+    go true e is ih =
+        let next : i ≡ suc (lesser_count uid xs) = omega (arith, is) in
+        let less = ltb-true x.uid uid e in
+        first_on until uid x xs (other_is until uid x (λ q. omega (arith, less, q)))
+        ∙ ih (lesser_count uid xs) refl (omega (arith, next)) (here ∙ ap (λ (k : ℕ). get_or (x ∷ xs) k h) next)
+    go false e is ih =
+        let this : h ≡ x = here ∙ ap (λ (k : ℕ). get_or (x ∷ xs) k h) is in
+        let more = ltb-false x.uid uid e in
+        ap (λ (o : Option Held). cond (held_is until uid x) (Some x) o) (first_past until uid x.uid xs r.0 more)
+        ∙ sym (ap (λ (y : Held). cond (held_is until uid y) (Some y) None) this)
+
+pub first_there : (until uid : ℕ) (hs : List Held) (i : ℕ) (h : Held) → AreRising hs → i ≡ lesser_count uid hs → i < length hs → h ≡ get_or hs i h → held_is until uid h ≡ true → first_held until uid hs ≡ Some h
+first_there until uid hs i h r is lt here e = first_at until uid hs i h r is lt here ∙ ap (λ (b : Bool). cond b (Some h) None) e
+
+pub first_other : (until uid : ℕ) (hs : List Held) (i : ℕ) (h : Held) → AreRising hs → i ≡ lesser_count uid hs → i < length hs → h ≡ get_or hs i h → held_is until uid h ≡ false → first_held until uid hs ≡ None
+first_other until uid hs i h r is lt here e = first_at until uid hs i h r is lt here ∙ ap (λ (b : Bool). cond b (Some h) None) e
+
+pub first_none : (until uid : ℕ) (hs : List Held) → length hs ≤ lesser_count uid hs → first_held until uid hs ≡ None
+first_none until uid [] le = refl
+first_none until uid (x ∷ xs) le = go (ltb x.uid uid) refl le (first_none until uid xs)
+  where
+    go : (b : Bool) → ltb x.uid uid ≡ b → length (x ∷ xs) ≤ cond b (lesser_count uid xs + 1) 0 → (length xs ≤ lesser_count uid xs → first_held until uid xs ≡ None) → first_held until uid (x ∷ xs) ≡ None
+    go true e le ih = let less = ltb-true x.uid uid e in first_on until uid x xs (other_is until uid x (λ q. omega (arith, less, q))) ∙ ih (omega arith)
+    go false e le ih = absurd (omega arith)
+
+-- ---- what is changed
+
+-- the change leaves all with other uids
+abbrev pub KeepsOthers : ℕ → (Held → Held) → Type 0
+KeepsOthers uid f = (h : Held) → (h.uid ≡ uid → ⊥) → f h ≡ h
+
+pub leases_other : (uid until : ℕ) → KeepsOthers uid (leased_if uid until)
+leases_other uid until h other = ap (λ (b : Bool). let x : Held = record { uid = h.uid; until = cond b (Some until) h.until; task = h.task } in x) (ne_eqb h.uid uid other)
+
+retimes_none : (until uid new its : ℕ) (o : Option ℕ) → eqb its uid ≡ false → retimed_until until uid new its o ≡ o
+retimes_none until uid new its None e = refl
+retimes_none until uid new its (Some leased) e =
+    ap (λ (b : Bool). cond (eqb leased until && b) (Some new) (Some leased)) e ∙ ap (λ (b : Bool). cond b (Some new) (Some leased)) (and_false (eqb leased until))
+
+pub retimes_other : (until uid new : ℕ) → KeepsOthers uid (retimed_held until uid new)
+retimes_other until uid new h other = ap (λ (o : Option ℕ). let x : Held = record { uid = h.uid; until = o; task = h.task } in x) (retimes_none until uid new h.uid h.until (ne_eqb h.uid uid other))
+
+kept_past : (uid : ℕ) (f : Held → Held) → KeepsOthers uid f → (u : ℕ) (hs : List Held) → ArePast u hs → uid ≤ u → map f hs ≡ hs
+kept_past uid f k u [] p le = refl
+kept_past uid f k u (h ∷ hs) p le = λ i. k h (λ e. omega (arith, p.0, e, le)) i ∷ kept_past uid f k u hs p.1 le i
+
+pub changed_there : (uid : ℕ) (f : Held → Held) → KeepsOthers uid f → (hs : List Held) (i : ℕ) (x d : Held) → AreRising hs → i ≡ lesser_count uid hs → i < length hs → x ≡ f (get_or hs i d) → set hs i x ≡ map f hs
+changed_there uid f k [] i x d r is lt e = absurd (omega arith)
+changed_there uid f k (h ∷ hs) i x d r is lt e = go (ltb h.uid uid) refl is (λ j. changed_there uid f k hs j x d r.1)
+  where
+    go : (b : Bool) → ltb h.uid uid ≡ b → i ≡ cond b (lesser_count uid hs + 1) 0
+        → ((j : ℕ) → j ≡ lesser_count uid hs → j < length hs → x ≡ f (get_or hs j d) → set hs j x ≡ map f hs)
+        → set (h ∷ hs) i x ≡ map f (h ∷ hs)
+    go true less is ih =
+        let next : i ≡ suc (lesser_count uid hs) = omega (arith, is) in
+        let low = ltb-true h.uid uid less in
+        ap (λ (n : ℕ). set (h ∷ hs) n x) next
+        ∙ ap (λ (ys : List Held). h ∷ ys) (ih (lesser_count uid hs) refl (omega (arith, next)) (e ∙ ap (λ (n : ℕ). f (get_or (h ∷ hs) n d)) next))
+        ∙ ap (λ (y : Held). y ∷ map f hs) (sym (k h (λ q. omega (arith, low, q))))
+    go false less is ih =
+        let high = ltb-false h.uid uid less in
+        ap (λ (n : ℕ). set (h ∷ hs) n x) is
+        ∙ ap (λ (y : Held). y ∷ hs) (e ∙ ap (λ (n : ℕ). f (get_or (h ∷ hs) n d)) is)
+        ∙ ap (λ (ys : List Held). f h ∷ ys) (sym (kept_past uid f k h.uid hs r.0 high))
+
+pub changed_none : (uid : ℕ) (f : Held → Held) → KeepsOthers uid f → (hs : List Held) → length hs ≤ lesser_count uid hs → hs ≡ map f hs
+changed_none uid f k [] le = refl
+changed_none uid f k (h ∷ hs) le = go (ltb h.uid uid) refl le (changed_none uid f k hs)
+  where
+    go : (b : Bool) → ltb h.uid uid ≡ b → length (h ∷ hs) ≤ cond b (lesser_count uid hs + 1) 0 → (length hs ≤ lesser_count uid hs → hs ≡ map f hs) → h ∷ hs ≡ map f (h ∷ hs)
+    go true less le ih =
+        let low = ltb-true h.uid uid less in
+        ap (λ (y : Held). y ∷ hs) (sym (k h (λ q. omega (arith, low, q)))) ∙ ap (λ (ys : List Held). f h ∷ ys) (ih (omega arith))
+    go false less le ih = absurd (omega arith)
