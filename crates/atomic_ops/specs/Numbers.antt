@@ -1,5 +1,19 @@
 -- Strings of bytes as whole numbers, whose lowest byte comes first.
-use Rattle.std.specs.Prelude.{ℕ, zero, suc, ◌+◌, ◌*◌, ◌/◌, ◌%◌, ◌^◌, [], ◌∷◌, length, nat_lt, if◌then◌else◌}
+use Rattle.std.specs.Prelude.{
+  ℕ,
+  zero,
+  suc,
+  ◌+◌,
+  ◌*◌,
+  ◌/◌,
+  ◌%◌,
+  ◌^◌,
+  [],
+  ◌∷◌,
+  length,
+  nat_lt,
+  if◌then◌else◌,
+}
 use Rattle.atomic_ops.specs.Bytes.{Bytes}
 
 -- the number that the bytes are

@@ -1,5 +1,20 @@
 -- The four profiles: a size of blocks, and what fits its blocks.
-use Rattle.std.specs.Prelude.{ℕ, ◌+◌, ◌*◌, ◌^◌, ◌<◌, ◌≤◌, List, [], ◌∷◌, Option, Some, None, ◌==◌, if◌then◌else◌}
+use Rattle.std.specs.Prelude.{
+  ℕ,
+  ◌+◌,
+  ◌*◌,
+  ◌^◌,
+  ◌<◌,
+  ◌≤◌,
+  List,
+  [],
+  ◌∷◌,
+  Option,
+  Some,
+  None,
+  ◌==◌,
+  if◌then◌else◌,
+}
 use Rattle.std.specs.List.{AllByRecursion}
 pub use Rattle.fb_bytes.specs.Blocks.{is_block}
 

@@ -1,5 +1,25 @@
 -- The bytes that blocks are made of.
-use Rattle.std.specs.Prelude.{◌≡◌, ℕ, ◌*◌, Bool, true, not, [], ◌∷◌, ◌++◌, length, take, drop, position, Option, Some, None, nat_lt, ◌==◌, if◌then◌else◌}
+use Rattle.std.specs.Prelude.{
+  ◌≡◌,
+  ℕ,
+  ◌*◌,
+  Bool,
+  true,
+  not,
+  [],
+  ◌∷◌,
+  ◌++◌,
+  length,
+  take,
+  drop,
+  position,
+  Option,
+  Some,
+  None,
+  nat_lt,
+  ◌==◌,
+  if◌then◌else◌,
+}
 use Rattle.std.specs.List.{AllByRecursion}
 use Rattle.std.specs.Int.{w32, to_le_bytes, to_be_bytes, from_le_bytes, from_be_bytes}
 use Rattle.fb_bytes.specs.Bytes.{Bytes}

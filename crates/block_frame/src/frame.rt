@@ -73,7 +73,8 @@ fn begin_block(
     repeat: &[u8],
     item: &[u8],
 ) -> Result<(), AllocError>
-    ensures ok { OnOk result (out.new.items ≡ (out.old.items ++ replicate room 255) ++ begun format repeat.now item.now) }
+    ensures ok { OnOk result (out.new.items ≡ (out.old.items ++ replicate room 255)
+        ++ begun format repeat.now item.now) }
     ensures err { OnErr result (out.new.items ≡ out.old.items) }
 {
     let len = out.len();
@@ -92,7 +93,8 @@ fn add_block(
     repeat: &[u8],
     item: &[u8],
 ) -> Result<(), AllocError>
-    ensures ok { OnOk result (out.new.items ≡ (out.old.items ++ replicate room 255) ++ begun format repeat.now item.now) }
+    ensures ok { OnOk result (out.new.items ≡ (out.old.items ++ replicate room 255)
+        ++ begun format repeat.now item.now) }
     ensures err { OnErr result (take (length out.old.items) out.new.items ≡ out.old.items) }
 {
     pad(out, room)?;

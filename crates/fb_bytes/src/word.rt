@@ -72,7 +72,8 @@ pub fn read_bytes(alloc: Global, word: &[u8]) -> Result<Blob, WordFault>
         → MatchResult result (λ blob. blob ≡ bytes) (λ e. e ≡ faults.NoMemory) }
     // Which fault it is.
     ensures ok { IfOk result (λ blob. words.word_reading word.now ≡ Ok blob) }
-    ensures err { IfErr result (λ e. (e ≡ faults.NoMemory) ⊎ (words.word_reading word.now ≡ Err e)) }
+    ensures err { IfErr result (λ e. (e ≡ faults.NoMemory)
+        ⊎ (words.word_reading word.now ≡ Err e)) }
     ensures open { IsErrOf result faults.Open ↔ (word.now ≡ []) }
 {
     read_letters(alloc, word)
@@ -80,7 +81,8 @@ pub fn read_bytes(alloc: Global, word: &[u8]) -> Result<Blob, WordFault>
 
 fn read_letters(alloc: Global, word: &[u8]) -> Result<Blob, WordFault>
     ensures ok { IfOk result (λ blob. words.word_reading word.now ≡ Ok blob) }
-    ensures err { IfErr result (λ e. (e ≡ faults.NoMemory) ⊎ (words.word_reading word.now ≡ Err e)) }
+    ensures err { IfErr result (λ e. (e ≡ faults.NoMemory)
+        ⊎ (words.word_reading word.now ≡ Err e)) }
     ensures open { word.now ≡ [] → result ≡ Err faults.Open }
 {
     if word.is_empty() {

@@ -12,7 +12,8 @@ pub record Calls : Type 0 where
 
 -- whether a call of that number fails
 abbrev pub fails : Calls → ℕ → Bool
-fails calls number = list_any (λ listed. nat_eq listed number) calls.failing || nat_lt calls.last number
+fails calls number =
+    list_any (λ listed. nat_eq listed number) calls.failing || nat_lt calls.last number
 
 -- whether the next call fails
 abbrev pub next_fails : Calls → Bool

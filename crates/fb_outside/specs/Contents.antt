@@ -2,7 +2,8 @@
 use Rattle.std.specs.Prelude.{◌≡◌, ℕ, ◌≤◌, [], ◌++◌, length, take}
 use Rattle.fb_bytes.specs.Bytes.{Bytes}
 
--- the first n of these bytes stand at the buffer's front, and no byte was moved only where none was left
+-- the first n of these bytes stand at the buffer's front, and no byte was moved only where none was
+-- left
 pub record Moves (n : ℕ) (bytes buf : Bytes) : Type 0 where
   pub enough : n ≤ length bytes
   pub front : take n buf ≡ take n bytes

@@ -1,4 +1,5 @@
--- The names that a folder on disk takes: parts with slashes between, none of which leads out of the folder.
+-- The names that a folder on disk takes: parts with slashes between, none of which leads out of the
+-- folder.
 use Rattle.std.specs.Prelude.{ℕ, nat_le, nat_eq, Bool, not, ◌&&◌, ◌||◌, length, slice_index}
 use Rattle.std.specs.List.{list_all, slice_split}
 use Rattle.fb_bytes.specs.Bytes.{Bytes}
@@ -13,7 +14,9 @@ is_part_byte byte =
 
 -- such bytes, one at least, and the first isn't `.`
 abbrev pub is_part : Bytes → Bool
-is_part part = not (nat_eq (length part) 0) && not (nat_eq (slice_index part 0) 46) && list_all is_part_byte part
+is_part part =
+    not (nat_eq (length part) 0) && not (nat_eq (slice_index part 0) 46)
+    && list_all is_part_byte part
 
 -- parts with slashes between
 abbrev pub is_store_name : Bytes → Bool

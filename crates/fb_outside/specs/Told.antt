@@ -1,5 +1,20 @@
 -- The files that a store in memory tells: all of them, since they are in order.
-use Rattle.std.specs.Prelude.{◌≡◌, Bool, true, false, cond, ◌&&◌, List, [], ◌∷◌, Option, Some, None, if◌then◌else◌, refl}
+use Rattle.std.specs.Prelude.{
+  ◌≡◌,
+  Bool,
+  true,
+  false,
+  cond,
+  ◌&&◌,
+  List,
+  [],
+  ◌∷◌,
+  Option,
+  Some,
+  None,
+  if◌then◌else◌,
+  refl,
+}
 use Rattle.std.proofs.Common.{ap}
 use Rattle.std.proofs.lemmas.Bool.{and_parts, and_from}
 use Rattle.fb_bytes.specs.Bytes.{Bytes, is_below}
@@ -18,7 +33,8 @@ are_files (file ∷ files) = is_past file.name files && are_files files
 abbrev pub in_order : List File → Option (List File)
 in_order files = if are_files files then Some files else None
 
-past_from_test : (name : Bytes) (files : List File) → is_past name files ≡ true → NamePast name files
+past_from_test : (name : Bytes) (files : List File) → is_past name files ≡ true
+    → NamePast name files
 past_from_test name [] e = tt
 past_from_test name (file ∷ files) e = e
 
@@ -34,7 +50,9 @@ test_past name (file ∷ files) h = h
 
 test_files : (files : List File) → AreFiles files → are_files files ≡ true
 test_files [] h = refl
-test_files (file ∷ files) h = and_from (is_past file.name files) (are_files files) (test_past file.name files h.0) (test_files files h.1)
+test_files (file ∷ files) h =
+    and_from (is_past file.name files) (are_files files) (test_past file.name files h.0)
+    (test_files files h.1)
 
 -- files in order are told
 pub told_in_order : (files : List File) → AreFiles files → in_order files ≡ Some files

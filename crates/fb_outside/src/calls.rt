@@ -54,7 +54,9 @@ impl Calls {
     /// Counts a call, and a fault where the call is to fail.
     pub fn fails_next(&mut self) -> bool
         ensures fails { result ≡ calls.next_fails self.old }
-        ensures counted { self.new ≡ (if calls.next_fails self.old then calls.after_failed_call self.old else calls.after_call self.old) }
+        ensures counted { self.new
+            ≡ (if calls.next_fails self.old then calls.after_failed_call self.old
+            else calls.after_call self.old) }
     {
         self.made = counted(self.made);
         let fails = self.failing.contains(&self.made) || self.last < self.made;

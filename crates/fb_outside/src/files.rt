@@ -94,7 +94,8 @@ impl Files {
 
     /// The bytes of the file of that name.
     pub fn get(&self, name: &[u8]) -> Option<&Blob>
-        ensures { MatchOption result (file_of self.now name.now ≡ None) (λ bytes. file_of self.now name.now ≡ Some bytes.now) }
+        ensures { MatchOption result (file_of self.now name.now ≡ None)
+            (λ bytes. file_of self.now name.now ≡ Some bytes.now) }
     {
         for file in &self.files {
             if is_same(file.name.as_bytes(), name) {
@@ -160,7 +161,8 @@ fn first_from(files: &[File], name: &[u8]) -> Option<usize>
 
 fn is_at(files: &[File], at: usize, name: &[u8]) -> bool
     ensures within { IsTrue result → at < length files.now }
-    ensures same { (d : words.File) → at < length files.now → result ≡ bytes.is_same (get_or files.now at d).name name.now }
+    ensures same { (d : words.File) → at < length files.now
+        → result ≡ bytes.is_same (get_or files.now at d).name name.now }
 {
     match files.get(at) {
         Some(file) => is_same(file.name.as_bytes(), name),

@@ -62,10 +62,14 @@ impl Sink for MemSink {
     fn write(&mut self, piece: &[u8]) -> Result<usize, Failed>
         ensures fails { next_fails self.old.calls ≡ true → IsErr result }
         ensures full { 0 < length piece.now → self.old.room ≤ length self.old.held → IsErr result }
-        ensures taken { IfOk result (λ n. (n ≡ min (length piece.now) (self.old.room - length self.old.held)) × (self.new.held ≡ self.old.held ++ take n piece.now)) }
+        ensures taken { IfOk result
+            (λ n. (n ≡ min (length piece.now) (self.old.room - length self.old.held))
+            × (self.new.held ≡ self.old.held ++ take n piece.now)) }
         ensures stays { OnErr result (self.new.held ≡ self.old.held) }
         ensures room { self.new.room ≡ self.old.room }
-        ensures calls { self.new.calls ≡ (if is_err result then after_failed_call self.old.calls else after_call self.old.calls) }
+        ensures calls { self.new.calls
+            ≡ (if is_err result then after_failed_call self.old.calls
+            else after_call self.old.calls) }
     {
         if self.calls.fails_next() {
             return Err(Failed);

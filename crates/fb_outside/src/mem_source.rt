@@ -52,7 +52,9 @@ impl Source for MemSource {
 
     fn read(&mut self, buf: &mut [u8]) -> Result<usize, Failed>
         ensures fails { is_err result ≡ next_fails self.old.calls }
-        ensures read { IfOk result (λ n. (n ≡ min (length buf.old) (length self.old.left)) × (buf.new ≡ take n self.old.left ++ drop n buf.old) × (self.new.left ≡ drop n self.old.left)) }
+        ensures read { IfOk result (λ n. (n ≡ min (length buf.old) (length self.old.left))
+            × (buf.new ≡ take n self.old.left ++ drop n buf.old)
+            × (self.new.left ≡ drop n self.old.left)) }
         ensures stays { OnErr result (self.new.left ≡ self.old.left) }
         ensures calls { self.new.calls ≡ called self.old.calls }
     {

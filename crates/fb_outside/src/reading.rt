@@ -46,11 +46,15 @@ impl<T: Drop> From<AllocFailed<T>> for ReadFault {
 /// Reads a source to its end, where at most `limit` bytes come. It stops at the first piece that
 /// passes the limit.
 pub fn read_all<S: Source>(alloc: Global, source: &mut S, limit: u64) -> Result<Blob, ReadFault>
-    ensures whole { IfOk result (λ blob. (bytes : Bytes) → S.left source.old ≡ Some bytes → (blob ≡ bytes) × (S.left source.new ≡ Some [])) }
+    ensures whole { IfOk result (λ blob. (bytes : Bytes) → S.left source.old ≡ Some bytes
+        → (blob ≡ bytes) × (S.left source.new ≡ Some [])) }
     ensures short { IfOk result (λ blob. length blob ≤ limit) }
-    ensures too_long { IsErrOf result ReadFault.TooLong → (bytes : Bytes) → S.left source.old ≡ Some bytes → limit < length bytes }
-    ensures rest { (bytes : Bytes) → S.left source.old ≡ Some bytes → (rest : Bytes) × (S.left source.new ≡ Some rest) × IsRestOf bytes rest }
-    ensures count { Counts (S.faults source.old) (S.faults source.new) (IsErrOf result ReadFault.Failed) }
+    ensures too_long { IsErrOf result ReadFault.TooLong → (bytes : Bytes)
+        → S.left source.old ≡ Some bytes → limit < length bytes }
+    ensures rest { (bytes : Bytes) → S.left source.old ≡ Some bytes → (rest : Bytes)
+        × (S.left source.new ≡ Some rest) × IsRestOf bytes rest }
+    ensures count { Counts (S.faults source.old) (S.faults source.new)
+        (IsErrOf result ReadFault.Failed) }
 {
     let mut bytes = Vec::new(alloc);
     let mut buf = [0u8; 4096];

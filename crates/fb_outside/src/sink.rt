@@ -15,9 +15,11 @@ pub trait Sink: Drop {
     /// empty is a fault too. A failing call takes none.
     fn write(&mut self, piece: &[u8]) -> Result<usize, Failed>
         ensures within { IfOk result (λ n. n ≤ length piece.now) }
-        ensures taken { IfOk result (λ n. (bytes : List ℕ) → held self.old ≡ Some bytes → held self.new ≡ Some (bytes ++ take n piece.now)) }
+        ensures taken { IfOk result (λ n. (bytes : List ℕ) → held self.old ≡ Some bytes
+            → held self.new ≡ Some (bytes ++ take n piece.now)) }
         ensures stays { OnErr result (held self.new ≡ held self.old) }
-        ensures count { Counts (faults self.old) (faults self.new) (IsErr result ⊎ (result ≡ Ok 0) × (piece.now ≢ [])) };
+        ensures count { Counts (faults self.old) (faults self.new) (IsErr result ⊎ (result ≡ Ok 0)
+            × (piece.now ≢ [])) };
 
     /// The count of faults. It takes no memory.
     fn faults(&self) -> u64

@@ -17,7 +17,8 @@ pub trait Source: Drop {
     fn read(&mut self, buf: &mut [u8]) -> Result<usize, Failed>
         requires { 0 < length buf.old }
         ensures within { IfOk result (λ n. n ≤ length buf.old) }
-        ensures moved { IfOk result (λ n. (bytes : List ℕ) → left self.old ≡ Some bytes → Moves n bytes buf.new × (left self.new ≡ Some (drop n bytes))) }
+        ensures moved { IfOk result (λ n. (bytes : List ℕ) → left self.old ≡ Some bytes
+            → Moves n bytes buf.new × (left self.new ≡ Some (drop n bytes))) }
         ensures stays { OnErr result (left self.new ≡ left self.old) }
         ensures count { Counts (faults self.old) (faults self.new) (IsErr result) };
 

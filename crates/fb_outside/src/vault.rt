@@ -22,34 +22,46 @@ pub trait Vault: Drop + Send {
     /// The whole names of the files under the folder, in byte order. The empty folder is the whole
     /// store.
     fn list(&mut self, alloc: Global, folder: &Text) -> Result<Names, VaultFail>
-        ensures names { IfOk result (λ names. (files_now : List File) → files self.old ≡ Some files_now → names ≡ names_in folder.now files_now) }
+        ensures names { IfOk result (λ names. (files_now : List File)
+            → files self.old ≡ Some files_now → names ≡ names_in folder.now files_now) }
         ensures same { files self.new ≡ files self.old }
-        ensures count { Counts (faults self.old) (faults self.new) (IsErrOf result VaultFail.Failed) }
+        ensures count { Counts (faults self.old) (faults self.new)
+            (IsErrOf result VaultFail.Failed) }
         ensures called { calls self.new ≡ counted (calls self.old) };
 
     /// The bytes of a file. None is a name that no file has, which isn't a fault.
     fn get(&mut self, alloc: Global, name: &Text) -> Result<Option<Blob>, VaultFail>
-        ensures bytes { IfOk result (λ bytes. (files_now : List File) → files self.old ≡ Some files_now → bytes ≡ file_of files_now name.now) }
+        ensures bytes { IfOk result (λ bytes. (files_now : List File)
+            → files self.old ≡ Some files_now → bytes ≡ file_of files_now name.now) }
         ensures same { files self.new ≡ files self.old }
-        ensures count { Counts (faults self.old) (faults self.new) (IsErrOf result VaultFail.Failed) }
+        ensures count { Counts (faults self.old) (faults self.new)
+            (IsErrOf result VaultFail.Failed) }
         ensures called { calls self.new ≡ counted (calls self.old) };
 
     /// Puts the bytes under the name, in place of what it had.
     fn put(&mut self, alloc: Global, name: &Text, bytes: &[u8]) -> Result<(), VaultFail>
-        ensures put { OnOk result ((files_now : List File) → files self.old ≡ Some files_now → files self.new ≡ Some (with_file files_now name.now bytes.now)) }
-        ensures failed { IsErrOf result VaultFail.Failed → (files_now : List File) → files self.old ≡ Some files_now → (files self.new ≡ Some files_now) ⊎ (files self.new ≡ Some (with_file files_now name.now bytes.now)) }
+        ensures put { OnOk result ((files_now : List File) → files self.old ≡ Some files_now
+            → files self.new ≡ Some (with_file files_now name.now bytes.now)) }
+        ensures failed { IsErrOf result VaultFail.Failed → (files_now : List File)
+            → files self.old ≡ Some files_now → (files self.new ≡ Some files_now)
+            ⊎ (files self.new ≡ Some (with_file files_now name.now bytes.now)) }
         ensures silent { files self.old ≡ None → files self.new ≡ None }
         ensures no_memory { IsErrOf result VaultFail.NoMemory → files self.new ≡ files self.old }
-        ensures count { Counts (faults self.old) (faults self.new) (IsErrOf result VaultFail.Failed) }
+        ensures count { Counts (faults self.old) (faults self.new)
+            (IsErrOf result VaultFail.Failed) }
         ensures called { calls self.new ≡ counted (calls self.old) };
 
     /// Deletes the file of that name. Where there is none it is done.
     fn delete(&mut self, name: &Text) -> Result<(), VaultFail>
-        ensures deleted { OnOk result ((files_now : List File) → files self.old ≡ Some files_now → files self.new ≡ Some (without_file files_now name.now)) }
-        ensures failed { IsErrOf result VaultFail.Failed → (files_now : List File) → files self.old ≡ Some files_now → (files self.new ≡ Some files_now) ⊎ (files self.new ≡ Some (without_file files_now name.now)) }
+        ensures deleted { OnOk result ((files_now : List File) → files self.old ≡ Some files_now
+            → files self.new ≡ Some (without_file files_now name.now)) }
+        ensures failed { IsErrOf result VaultFail.Failed → (files_now : List File)
+            → files self.old ≡ Some files_now → (files self.new ≡ Some files_now)
+            ⊎ (files self.new ≡ Some (without_file files_now name.now)) }
         ensures silent { files self.old ≡ None → files self.new ≡ None }
         ensures no_memory { IsErrOf result VaultFail.NoMemory → files self.new ≡ files self.old }
-        ensures count { Counts (faults self.old) (faults self.new) (IsErrOf result VaultFail.Failed) }
+        ensures count { Counts (faults self.old) (faults self.new)
+            (IsErrOf result VaultFail.Failed) }
         ensures called { calls self.new ≡ counted (calls self.old) };
 
     /// The count of faults. It takes no memory.

@@ -205,7 +205,9 @@ fn number_of(digits: &[u8]) -> Option<u64>
 /// What the digits write, where it is below 2^63.
 fn value_of(digits: &[u8]) -> Option<u64>
     requires { all_ascii_digits digits.now ≡ true }
-    ensures { result ≡ (if spec.is_number (reading.value_after 0 digits.now) then Some (reading.value_after 0 digits.now) else None) }
+    ensures { result
+        ≡ (if spec.is_number (reading.value_after 0 digits.now)
+        then Some (reading.value_after 0 digits.now) else None) }
 {
     let mut value: u64 = 0;
     for digit in digits {

@@ -43,14 +43,17 @@ fn range(
     ticket: u64,
     block: u32,
 ) -> Result<String, AllocError>
-    ensures { IfOk result (λ text. string_bytes text ≡ spelled range_texts (range_numbers snapshot version ticket block)) }
+    ensures { IfOk result
+        (λ text. string_bytes text
+        ≡ spelled range_texts (range_numbers snapshot version ticket block)) }
 {
     let group = ticket / 1000;
     format!(in alloc; "kvranges/snapshot.{snapshot}/{group}/range,{version},{ticket},{block}")
 }
 
 fn log(alloc: Global, begin: u64, end: u64, ticket: u64, block: u32) -> Result<String, AllocError>
-    ensures { IfOk result (λ text. string_bytes text ≡ spelled log_texts (log_numbers begin end ticket block)) }
+    ensures { IfOk result
+        (λ text. string_bytes text ≡ spelled log_texts (log_numbers begin end ticket block)) }
 {
     let group = begin / 1_000_000_000;
     format!(in alloc; "logs/{group}/log,{begin},{end},{ticket},{block}")
@@ -63,7 +66,9 @@ fn manifest(
     bytes: u64,
     ticket: u64,
 ) -> Result<String, AllocError>
-    ensures { IfOk result (λ text. string_bytes text ≡ spelled manifest_texts (manifest_numbers begin end bytes ticket)) }
+    ensures { IfOk result
+        (λ text. string_bytes text
+        ≡ spelled manifest_texts (manifest_numbers begin end bytes ticket)) }
 {
     format!(in alloc; "snapshots/snapshot,{begin},{end},{bytes},{ticket}")
 }

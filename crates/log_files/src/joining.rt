@@ -47,7 +47,8 @@ pub fn finished(alloc: Global, batched: Batched) -> Result<Batched, LogFault>
 #[tactic(auto, unfolding(crate::specs::Reading::taken))]
 pub fn taken(alloc: Global, batched: Batched, end: u64, row: &Record) -> Result<Batched, LogFault>
     ensures ok { IfOk result (λ b. reading.taken end (so_far batched) row.now ≡ Ok (so_far b)) }
-    ensures err { IfErr result (λ fault. reading.Fails fault (reading.taken end (so_far batched) row.now)) }
+    ensures err { IfErr result
+        (λ fault. reading.Fails fault (reading.taken end (so_far batched) row.now)) }
 {
     let key = row.key.as_slice();
     if key.len() != 12 {
@@ -88,8 +89,10 @@ fn version_and_part(key: &[u8]) -> (u64, u32)
 /// One more piece of the batch that is being joined.
 #[tactic(auto, unfolding(crate::specs::Reading::continued))]
 fn continued(batched: Batched, row: &Record, part: u32) -> Result<Batched, LogFault>
-    ensures ok { IfOk result (λ b. reading.continued (so_far batched) row.now part ≡ Ok (so_far b)) }
-    ensures err { IfErr result (λ fault. reading.Fails fault (reading.continued (so_far batched) row.now part)) }
+    ensures ok { IfOk result (λ b. reading.continued (so_far batched) row.now part
+        ≡ Ok (so_far b)) }
+    ensures err { IfErr result
+        (λ fault. reading.Fails fault (reading.continued (so_far batched) row.now part)) }
 {
     let Batched {
         batches,
@@ -133,8 +136,10 @@ fn begun(
     version: u64,
     part: u32,
 ) -> Result<Batched, LogFault>
-    ensures ok { IfOk result (λ b. reading.begun end (so_far batched) row.now version part ≡ Ok (so_far b)) }
-    ensures err { IfErr result (λ fault. reading.Fails fault (reading.begun end (so_far batched) row.now version part)) }
+    ensures ok { IfOk result (λ b. reading.begun end (so_far batched) row.now version part
+        ≡ Ok (so_far b)) }
+    ensures err { IfErr result
+        (λ fault. reading.Fails fault (reading.begun end (so_far batched) row.now version part)) }
 {
     if version < batched.low || version >= end {
         return Err(LogFault::Version {
@@ -166,8 +171,10 @@ pub fn all_taken(
     end: u64,
     records: &[Record],
 ) -> Result<Batched, LogFault>
-    ensures ok { IfOk result (λ b. reading.all_taken end (so_far batched) records.now ≡ Ok (so_far b)) }
-    ensures err { IfErr result (λ fault. reading.Fails fault (reading.all_taken end (so_far batched) records.now)) }
+    ensures ok { IfOk result (λ b. reading.all_taken end (so_far batched) records.now
+        ≡ Ok (so_far b)) }
+    ensures err { IfErr result
+        (λ fault. reading.Fails fault (reading.all_taken end (so_far batched) records.now)) }
 {
     let mut batched = batched;
     for row in records {

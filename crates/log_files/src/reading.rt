@@ -26,18 +26,22 @@ pub fn read_log(
     // What is read is in the grammar.
     ensures found { IfOk result (λ chunk. LogFile block begin end bytes.now chunk.batches) }
     // What is in the grammar is read, unless memory runs out.
-    ensures only { (batches : List Batch) → LogFile block begin end bytes.now batches → MatchResult result (λ chunk. chunk.batches ≡ batches) (λ fault. fault ≡ LogFault.NoMemory) }
+    ensures only { (batches : List Batch) → LogFile block begin end bytes.now batches
+        → MatchResult result (λ chunk. chunk.batches ≡ batches)
+        (λ fault. fault ≡ LogFault.NoMemory) }
     // Which fault it is.
     ensures ok { IfOk result (λ chunk. reading.read block begin end bytes.now ≡ Ok chunk.batches) }
     ensures span { IfOk result (λ chunk. (chunk.begin ≡ begin) × (chunk.end ≡ end)) }
-    ensures err { IfErr result (λ fault. reading.Fails fault (reading.read block begin end bytes.now)) }
+    ensures err { IfErr result
+        (λ fault. reading.Fails fault (reading.read block begin end bytes.now)) }
 {
     let read = batches_of(alloc, bytes, block, begin, end);
     chunk_of(read, begin, end)
 }
 
 fn chunk_of(read: Result<Batches, LogFault>, begin: u64, end: u64) -> Result<LogChunk, LogFault>
-    ensures chunk { IfOk result (λ chunk. (read ≡ Ok chunk.batches) × (chunk.begin ≡ begin) × (chunk.end ≡ end)) }
+    ensures chunk { IfOk result (λ chunk. (read ≡ Ok chunk.batches) × (chunk.begin ≡ begin)
+        × (chunk.end ≡ end)) }
     ensures fault { IfErr result (λ fault. read ≡ Err fault) }
 {
     match read {
@@ -60,7 +64,8 @@ fn batches_of(
 ) -> Result<Batches, LogFault>
     requires { 0 < size }
     ensures ok { IfOk result (λ batches. reading.read size begin end bytes.now ≡ Ok batches) }
-    ensures err { IfErr result (λ fault. reading.Fails fault (reading.read size begin end bytes.now)) }
+    ensures err { IfErr result
+        (λ fault. reading.Fails fault (reading.read size begin end bytes.now)) }
 {
     let batched = blocks(alloc, bytes, size, begin, end)?;
     let batched = finished(alloc, batched)?;
@@ -71,8 +76,12 @@ fn batches_of(
 /// Block by block, each wholly before its records.
 fn blocks(alloc: Global, bytes: &[u8], size: u32, begin: u64, end: u64) -> Result<Batched, LogFault>
     requires { 0 < size }
-    ensures ok { IfOk result (λ b. reading.blocks_from (length bytes.now) size end 0 (reading.nothing_yet begin) bytes.now ≡ Ok (so_far b)) }
-    ensures err { IfErr result (λ fault. reading.Fails fault (reading.blocks_from (length bytes.now) size end 0 (reading.nothing_yet begin) bytes.now)) }
+    ensures ok { IfOk result
+        (λ b. reading.blocks_from (length bytes.now) size end 0
+        (reading.nothing_yet begin) bytes.now ≡ Ok (so_far b)) }
+    ensures err { IfErr result
+        (λ fault. reading.Fails fault
+        (reading.blocks_from (length bytes.now) size end 0 (reading.nothing_yet begin) bytes.now)) }
 {
     let mut batched = Batched {
         batches: Batches::new(alloc),

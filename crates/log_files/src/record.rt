@@ -26,7 +26,8 @@ pub const FORMAT: u32 = 2001;
 pub fn block_records(alloc: Global, bytes: &[u8], base: u64) -> Result<Vec<Record>, LogFault>
     requires { base + length bytes.now < 2 ^ 64 }
     ensures ok { IfOk result (λ records. reading.block_records base bytes.now ≡ Ok records.items) }
-    ensures err { IfErr result (λ fault. reading.Fails fault (reading.block_records base bytes.now)) }
+    ensures err { IfErr result
+        (λ fault. reading.Fails fault (reading.block_records base bytes.now)) }
 {
     let end = base + bytes.len() as u64;
     let rest = header_or(bytes, base)?;
@@ -70,8 +71,10 @@ fn string_or(alloc: Global, bytes: &[u8], end: u64) -> Result<(Blob, &[u8]), Log
 /// Records until the block is over, and the bytes behind them.
 fn records_at(alloc: Global, bytes: &[u8], end: u64) -> Result<(Vec<Record>, &[u8]), LogFault>
     requires { length bytes.now ≤ end }
-    ensures ok { IfOk result (λ x. reading.records_at (length bytes.now + 1) end bytes.now ≡ Ok (x.0.items, x.1.now)) }
-    ensures err { IfErr result (λ fault. reading.Fails fault (reading.records_at (length bytes.now + 1) end bytes.now)) }
+    ensures ok { IfOk result (λ x. reading.records_at (length bytes.now + 1) end bytes.now
+        ≡ Ok (x.0.items, x.1.now)) }
+    ensures err { IfErr result
+        (λ fault. reading.Fails fault (reading.records_at (length bytes.now + 1) end bytes.now)) }
     ensures within { IfOk result (λ x. length x.1.now ≤ length bytes.now) }
 {
     let mut records = Vec::new(alloc);
@@ -91,7 +94,8 @@ fn records_at(alloc: Global, bytes: &[u8], end: u64) -> Result<(Vec<Record>, &[u
 fn unless_padded(rest: &[u8], end: u64) -> Result<(), LogFault>
     requires { length rest.now ≤ end }
     ensures ok { OnOk result ((x : List Record) → reading.unless_padded end rest.now x ≡ Ok x) }
-    ensures err { IfErr result (λ fault. (x : List Record) → reading.Fails fault (reading.unless_padded end rest.now x)) }
+    ensures err { IfErr result (λ fault. (x : List Record)
+        → reading.Fails fault (reading.unless_padded end rest.now x)) }
 {
     match unpadded_at(rest) {
         None => Ok(()),

@@ -18,7 +18,8 @@ pub fn write_log<const BLOCK: u32>(alloc: Global, chunk: &LogChunk) -> Result<Bl
     requires { IsWritable BLOCK chunk.now.begin chunk.now.end chunk.now.batches }
     ensures text { IfOk result (λ text. text ≡ log_text BLOCK chunk.now.batches) }
     // It is in the grammar, so it is read back.
-    ensures grammar { IfOk result (λ text. LogFile BLOCK chunk.now.begin chunk.now.end text chunk.now.batches) }
+    ensures grammar { IfOk result
+        (λ text. LogFile BLOCK chunk.now.begin chunk.now.end text chunk.now.batches) }
 {
     block_frame::blocks_have_room();
     let part = part_size(BLOCK);
@@ -35,7 +36,8 @@ pub fn write_log<const BLOCK: u32>(alloc: Global, chunk: &LogChunk) -> Result<Bl
 pub fn write_log_at(alloc: Global, block: u32, chunk: &LogChunk) -> Result<Blob, AllocError>
     requires { IsWritable block chunk.now.begin chunk.now.end chunk.now.batches }
     ensures text { IfOk result (λ text. text ≡ log_text block chunk.now.batches) }
-    ensures grammar { IfOk result (λ text. LogFile block chunk.now.begin chunk.now.end text chunk.now.batches) }
+    ensures grammar { IfOk result
+        (λ text. LogFile block chunk.now.begin chunk.now.end text chunk.now.batches) }
 {
     block_frame::at_block!(block, write_log(alloc, chunk), unreachable!())
 }
@@ -63,7 +65,8 @@ fn put_batch<const BLOCK: u32>(
     requires room { 24 + part ≤ BLOCK }
     requires part { 64 ≤ part }
     requires few { length bytes.now ≤ 2 ^ 33 }
-    ensures { OnOk result (frames.new ≡ with_rows BLOCK frames.old (rows_of version 0 (pieces_of part bytes.now))) }
+    ensures { OnOk result
+        (frames.new ≡ with_rows BLOCK frames.old (rows_of version 0 (pieces_of part bytes.now))) }
 {
     let mut rest = bytes;
     let mut number: u32 = 0;
@@ -82,7 +85,8 @@ fn put_batch<const BLOCK: u32>(
 /// A record: the version and the part's number, and the piece.
 fn row_bytes(alloc: Global, version: u64, part: u32, piece: &[u8]) -> Result<Vec<u8>, AllocError>
     requires { length piece.now < 2 ^ 32 }
-    ensures { IfOk result (λ bytes. bytes.items ≡ row_text (record { key = row_key version part; value = piece.now })) }
+    ensures { IfOk result
+        (λ bytes. bytes.items ≡ row_text (record { key = row_key version part; value = piece.now })) }
 {
     let mut key = Vec::new(alloc);
     key.extend_from_slice(&version.to_be_bytes())?;

@@ -2,7 +2,13 @@
 use Rattle.std.specs.Prelude.{codes}
 use Rattle.fb_bytes.specs.Bytes.{Bytes}
 use Rattle.manifests.specs.declared.fault.Field.{Field}
-use Rattle.manifests.specs.declared.fault.Field.TheVariants.{BeginVersion, EndVersion, Files, Format, TotalBytes}
+use Rattle.manifests.specs.declared.fault.Field.TheVariants.{
+  BeginVersion,
+  EndVersion,
+  Files,
+  Format,
+  TotalBytes,
+}
 
 -- the key of a field
 abbrev pub word_of : Field → Bytes

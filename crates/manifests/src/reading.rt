@@ -20,10 +20,12 @@ pub fn read(alloc: Global, bytes: &[u8], name: &Name) -> Result<Manifest, Manife
     // What is read is in the grammar of the name.
     ensures found { IfOk result (λ manifest. ManifestText name.now bytes.now manifest) }
     // What is in the grammar is read, unless memory runs out.
-    ensures only { (m : Manifest) → ManifestText name.now bytes.now m → MatchResult result (λ manifest. manifest ≡ m) (λ fault. fault ≡ ManifestFault.NoMemory) }
+    ensures only { (m : Manifest) → ManifestText name.now bytes.now m
+        → MatchResult result (λ manifest. manifest ≡ m) (λ fault. fault ≡ ManifestFault.NoMemory) }
     // Which fault it is.
     ensures ok { IfOk result (λ manifest. reading.manifest_read name.now bytes.now ≡ Ok manifest) }
-    ensures err { IfErr result (λ fault. reading.Fails fault (reading.manifest_read name.now bytes.now)) }
+    ensures err { IfErr result
+        (λ fault. reading.Fails fault (reading.manifest_read name.now bytes.now)) }
 {
     read_checked(alloc, bytes, name)
 }
@@ -31,7 +33,8 @@ pub fn read(alloc: Global, bytes: &[u8], name: &Name) -> Result<Manifest, Manife
 #[tactic(auto, unfolding(crate::specs::Reading::manifest_read))]
 fn read_checked(alloc: Global, bytes: &[u8], name: &Name) -> Result<Manifest, ManifestFault>
     ensures ok { IfOk result (λ manifest. reading.manifest_read name.now bytes.now ≡ Ok manifest) }
-    ensures err { IfErr result (λ fault. reading.Fails fault (reading.manifest_read name.now bytes.now)) }
+    ensures err { IfErr result
+        (λ fault. reading.Fails fault (reading.manifest_read name.now bytes.now)) }
 {
     let value = value_of(alloc, bytes)?;
     let manifest = fields_of(alloc, &value)?;
@@ -42,7 +45,9 @@ fn read_checked(alloc: Global, bytes: &[u8], name: &Name) -> Result<Manifest, Ma
 #[tactic(auto, unfolding(crate::specs::Reading::value_of))]
 fn value_of(alloc: Global, bytes: &[u8]) -> Result<Value, ManifestFault>
     ensures ok { IfOk result (λ value. reading.value_of bytes.now ≡ Some (view value)) }
-    ensures err { IfErr result (λ fault. reading.Fails fault (reading.found_or ManifestFault.Json (reading.value_of bytes.now))) }
+    ensures err { IfErr result
+        (λ fault. reading.Fails fault
+        (reading.found_or ManifestFault.Json (reading.value_of bytes.now))) }
 {
     let Ok(text) = str::from_utf8(bytes) else {
         return Err(ManifestFault::Json);
@@ -79,8 +84,12 @@ fn fields_of(alloc: Global, value: &Value) -> Result<Manifest, ManifestFault>
 
 /// The names under `files`.
 fn files_or(alloc: Global, value: &Value) -> Result<Names, ManifestFault>
-    ensures ok { IfOk result (λ files. reading.texts_in (codes "files") (view value.now) ≡ Some files) }
-    ensures err { IfErr result (λ fault. reading.Fails fault (reading.found_or (ManifestFault.Field Field.Files) (reading.texts_in (codes "files") (view value.now)))) }
+    ensures ok { IfOk result (λ files. reading.texts_in (codes "files") (view value.now)
+        ≡ Some files) }
+    ensures err { IfErr result
+        (λ fault. reading.Fails fault
+        (reading.found_or (ManifestFault.Field Field.Files)
+        (reading.texts_in (codes "files") (view value.now)))) }
 {
     match texts_in(alloc, value, "files")? {
         Some(files) => Ok(files),
@@ -108,7 +117,8 @@ fn number_in(value: &Value, key: &str) -> Option<u64>
 }
 
 fn number_or(value: &Value, key: &str, name: Field) -> Result<u64, ManifestFault>
-    ensures { result ≡ reading.found_or (ManifestFault.Field name) (reading.number_in key.now (view value.now)) }
+    ensures { result
+        ≡ reading.found_or (ManifestFault.Field name) (reading.number_in key.now (view value.now)) }
 {
     match number_in(value, key) {
         Some(number) => Ok(number),

@@ -15,7 +15,8 @@ pub fn write(alloc: Global, manifest: &Manifest) -> Result<Blob, AllocError>
     requires { IsWhole manifest.now }
     ensures text { IfOk result (λ text. text ≡ manifest_text manifest.now) }
     // It is in the grammar of each name with these numbers, so it is read back.
-    ensures grammar { IfOk result (λ text. (ticket : ℕ) → ManifestText (name_for manifest.now ticket) text manifest.now) }
+    ensures grammar { IfOk result (λ text. (ticket : ℕ)
+        → ManifestText (name_for manifest.now ticket) text manifest.now) }
 {
     let value = value_of(alloc, manifest)?;
     let text = value.to_string(alloc)?;

@@ -77,7 +77,8 @@ fn read_mutations(alloc: Global, total: usize, bytes: &[u8]) -> Result<Muts, Wir
 
 /// The bytes of the mutations, where what stands before them has no fault.
 fn body_of(bytes: &[u8]) -> Result<&[u8], WireFault>
-    ensures ok { IfOk result (λ body. (header_fault bytes.now ≡ None) × (body.now ≡ drop 12 bytes.now)) }
+    ensures ok { IfOk result (λ body. (header_fault bytes.now ≡ None)
+        × (body.now ≡ drop 12 bytes.now)) }
     ensures err { IfErr result (λ fault. header_fault bytes.now ≡ Some fault) }
 {
     if bytes.len() < 12 {
@@ -101,7 +102,8 @@ pub fn decode_batch(alloc: Global, bytes: &[u8]) -> Result<Muts, WireFault>
     // What is read is spelled so.
     ensures found { IfOk result (λ muts. HasSpelling muts × (bytes.now ≡ batch_spelling muts)) }
     // What is spelled so is read, unless memory runs out.
-    ensures only { (muts : List Mutation) → HasSpelling muts → bytes.now ≡ batch_spelling muts → Gives (λ x. x) result (Ok muts) }
+    ensures only { (muts : List Mutation) → HasSpelling muts → bytes.now ≡ batch_spelling muts
+        → Gives (λ x. x) result (Ok muts) }
     // Which fault it is.
     ensures exact { Gives (λ muts. muts) result (decoded bytes.now) }
     // A fault before the mutations is told whatever the memory.

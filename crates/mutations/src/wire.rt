@@ -71,7 +71,13 @@ pub struct MutationParts<'a> {
 
 /// The parts of the mutation at the front, where no part passes the end.
 pub fn parts_of(bytes: &[u8]) -> Option<MutationParts<'_>>
-    ensures { option_map (λ p. record { code = p.code; first = p.first.now; second = p.second.now; rest = p.rest.now }) result ≡ parts.parts_of bytes.now }
+    ensures { option_map
+        (λ p. record {
+          code = p.code;
+          first = p.first.now;
+          second = p.second.now;
+          rest = p.rest.now;
+        }) result ≡ parts.parts_of bytes.now }
 {
     let (code, rest) = number_at(bytes)?;
     let (first_len, rest) = number_at(rest)?;

@@ -36,12 +36,17 @@ struct Items<'a> {
 pub fn read_block(alloc: Global, bytes: &[u8], base: u64, header: u32) -> Result<Block, BlockFault>
     requires { base + length bytes.now < 2 ^ 64 }
     // What is read is in the grammar.
-    ensures found { IfOk result (λ block. IsBlockAt header base bytes.now block.begin block.pairs block.end) }
+    ensures found { IfOk result
+        (λ block. IsBlockAt header base bytes.now block.begin block.pairs block.end) }
     // What is in the grammar is read, unless memory runs out.
-    ensures only { (begin : Bytes) (pairs : List Pair) (end : Option Bytes) → IsBlockAt header base bytes.now begin pairs end → MatchResult result (λ block. block ≡ record { begin = begin; pairs = pairs; end = end }) (λ fault. fault ≡ BlockFault.NoMemory) }
+    ensures only { (begin : Bytes) (pairs : List Pair) (end : Option Bytes)
+        → IsBlockAt header base bytes.now begin pairs end
+        → MatchResult result (λ block. block ≡ record { begin = begin; pairs = pairs; end = end })
+        (λ fault. fault ≡ BlockFault.NoMemory) }
     // Which fault it is.
     ensures ok { IfOk result (λ block. reading.block_of header base bytes.now ≡ Ok block) }
-    ensures err { IfErr result (λ fault. reading.Fails fault (reading.block_of header base bytes.now)) }
+    ensures err { IfErr result
+        (λ fault. reading.Fails fault (reading.block_of header base bytes.now)) }
 {
     read(alloc, bytes, base, header)
 }
@@ -51,7 +56,8 @@ pub fn read_block(alloc: Global, bytes: &[u8], base: u64, header: u32) -> Result
 fn read(alloc: Global, bytes: &[u8], base: u64, header: u32) -> Result<Block, BlockFault>
     requires { base + length bytes.now < 2 ^ 64 }
     ensures ok { IfOk result (λ block. reading.block_of header base bytes.now ≡ Ok block) }
-    ensures err { IfErr result (λ fault. reading.Fails fault (reading.block_of header base bytes.now)) }
+    ensures err { IfErr result
+        (λ fault. reading.Fails fault (reading.block_of header base bytes.now)) }
 {
     let (begin, items) = structure(alloc, bytes, base, header)?;
     let place = base + (8 + begin.len() as u64);
@@ -76,8 +82,10 @@ fn structure(
     header: u32,
 ) -> Result<(Blob, Items<'_>), BlockFault>
     requires { base + length bytes.now < 2 ^ 64 }
-    ensures ok { IfOk result (λ x. reading.structure_of header base bytes.now ≡ Ok (x.0, items_from x.1)) }
-    ensures err { IfErr result (λ fault. reading.Fails fault (reading.structure_of header base bytes.now)) }
+    ensures ok { IfOk result (λ x. reading.structure_of header base bytes.now
+        ≡ Ok (x.0, items_from x.1)) }
+    ensures err { IfErr result
+        (λ fault. reading.Fails fault (reading.structure_of header base bytes.now)) }
 {
     let end = base + bytes.len() as u64;
     let Some((found, rest)) = header_at(bytes) else {
@@ -109,8 +117,10 @@ fn string_or(alloc: Global, bytes: &[u8], end: u64) -> Result<(Blob, &[u8]), Blo
 /// Keys and values in turn, until the block is over behind one of them.
 fn items_at(alloc: Global, bytes: &[u8], end: u64) -> Result<Items<'_>, BlockFault>
     requires { length bytes.now ≤ end }
-    ensures ok { IfOk result (λ items. reading.items_at (length bytes.now + 1) end bytes.now ≡ Ok (items_from items)) }
-    ensures err { IfErr result (λ fault. reading.Fails fault (reading.items_at (length bytes.now + 1) end bytes.now)) }
+    ensures ok { IfOk result (λ items. reading.items_at (length bytes.now + 1) end bytes.now
+        ≡ Ok (items_from items)) }
+    ensures err { IfErr result
+        (λ fault. reading.Fails fault (reading.items_at (length bytes.now + 1) end bytes.now)) }
 {
     let mut pairs = Vec::new(alloc);
     let mut rest = bytes;

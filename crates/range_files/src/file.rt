@@ -39,7 +39,10 @@ pub fn read_range(alloc: Global, bytes: &[u8], block: u32) -> Result<RangeBody, 
     // What is read is in the grammar.
     ensures found { IfOk result (λ body. RangeFile block bytes.now body.begin body.end body.pairs) }
     // What is in the grammar is read, unless memory runs out.
-    ensures only { (begin end : Bytes) (pairs : List Pair) → RangeFile block bytes.now begin end pairs → MatchResult result (λ body. body ≡ record { begin = begin; end = end; pairs = pairs }) (λ fault. fault ≡ BlockFault.NoMemory) }
+    ensures only { (begin end : Bytes) (pairs : List Pair)
+        → RangeFile block bytes.now begin end pairs
+        → MatchResult result (λ body. body ≡ record { begin = begin; end = end; pairs = pairs })
+        (λ fault. fault ≡ BlockFault.NoMemory) }
     // Which fault it is.
     ensures ok { IfOk result (λ body. reading.read block bytes.now ≡ Ok body) }
     ensures err { IfErr result (λ fault. reading.Fails fault (reading.read block bytes.now)) }
@@ -145,8 +148,13 @@ fn without_last(pairs: Pairs, end: &Option<Blob>) -> (Vec<Pair>, Option<Pair>)
 /// place `at`.
 fn finish(front: Option<Front>, block: Block, at: u64) -> Result<RangeBody, BlockFault>
     requires { IsSome block.end → AreRising (all_pairs front block.pairs) }
-    ensures ok { IfOk result (λ body. reading.last_body at (first_begin front block.begin) (all_pairs front block.pairs) block.end ≡ Ok body) }
-    ensures err { IfErr result (λ fault. reading.Fails fault (reading.last_body at (first_begin front block.begin) (all_pairs front block.pairs) block.end)) }
+    ensures ok { IfOk result
+        (λ body. reading.last_body at (first_begin front block.begin)
+        (all_pairs front block.pairs) block.end ≡ Ok body) }
+    ensures err { IfErr result
+        (λ fault. reading.Fails fault
+        (reading.last_body at (first_begin front block.begin)
+        (all_pairs front block.pairs) block.end)) }
 {
     let Block { begin, pairs, end } = block;
     let Some(end) = end else {

@@ -77,7 +77,8 @@ fn is_writable(block: u32, chunk: &Chunk) -> bool
 }
 
 fn are_within(profile: &Profile, begin: &[u8], end: &[u8], pairs: &[Pair]) -> bool
-    ensures { result ≡ true → AllByRecursion (PairFits profile.now.block begin.now end.now) pairs.now }
+    ensures { result ≡ true
+        → AllByRecursion (PairFits profile.now.block begin.now end.now) pairs.now }
 {
     match pairs {
         [] => true,

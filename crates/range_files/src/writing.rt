@@ -39,9 +39,11 @@ impl Chunk {
 /// The range file of a chunk, in blocks of `BLOCK` bytes. The version isn't written.
 pub fn write_range<const BLOCK: u32>(alloc: Global, chunk: &Chunk) -> Result<Blob, AllocError>
     requires { IsWritable BLOCK chunk.now.begin chunk.now.end chunk.now.pairs }
-    ensures text { IfOk result (λ text. text ≡ range_text BLOCK chunk.now.begin chunk.now.end chunk.now.pairs) }
+    ensures text { IfOk result
+        (λ text. text ≡ range_text BLOCK chunk.now.begin chunk.now.end chunk.now.pairs) }
     // It is in the grammar, so it is read back.
-    ensures grammar { IfOk result (λ text. RangeFile BLOCK text chunk.now.begin chunk.now.end chunk.now.pairs) }
+    ensures grammar { IfOk result
+        (λ text. RangeFile BLOCK text chunk.now.begin chunk.now.end chunk.now.pairs) }
 {
     block_frame::blocks_have_room();
     let begin = string_text(alloc, chunk.begin.as_slice())?;
@@ -62,8 +64,10 @@ pub fn write_range<const BLOCK: u32>(alloc: Global, chunk: &Chunk) -> Result<Blo
 /// The same for a block that is a value.
 pub fn write_range_at(alloc: Global, block: u32, chunk: &Chunk) -> Result<Blob, AllocError>
     requires { IsWritable block chunk.now.begin chunk.now.end chunk.now.pairs }
-    ensures text { IfOk result (λ text. text ≡ range_text block chunk.now.begin chunk.now.end chunk.now.pairs) }
-    ensures grammar { IfOk result (λ text. RangeFile block text chunk.now.begin chunk.now.end chunk.now.pairs) }
+    ensures text { IfOk result
+        (λ text. text ≡ range_text block chunk.now.begin chunk.now.end chunk.now.pairs) }
+    ensures grammar { IfOk result
+        (λ text. RangeFile block text chunk.now.begin chunk.now.end chunk.now.pairs) }
 {
     block_frame::at_block!(block, write_range(alloc, chunk), unreachable!())
 }
