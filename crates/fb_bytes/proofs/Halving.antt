@@ -1,6 +1,6 @@
 -- A search by halving finds how many stand in front, and the one range that may have a key.
 use Rattle.std.proofs.Common.{◌≡◌, ℕ, zero, suc, ◌+◌, ◌<◌, ◌≤◌, Bool, true, false, not, ◌&&◌, ◌||◌, List, [], ◌∷◌, length, get_or, refl, sym, ap, subst, ◌∙◌, arith}
-use Rattle.std.specs.List.{prefix_len}
+use Rattle.std.specs.List.{prefix_len, AllByRecursion}
 use Rattle.std.specs.List.Sorted.{IsPartitionedBy, IsPartitionPoint}
 use Rattle.std.proofs.lemmas.Bool.{cond-true, cond-false}
 use Rattle.fb_bytes.specs.Bytes.{Bytes, is_below}
@@ -22,6 +22,27 @@ halved p (x ∷ xs) (suc i) le h =
     ap suc (halved p xs i (omega arith) ((λ k d l u. h.0 (suc k) d (omega arith) (omega arith)), (λ k d l u. h.1 (suc k) d (omega arith) (omega arith))))
     ∙ one_more (prefix_len p xs)
     ∙ sym (cond-true (p x) (1 + prefix_len p xs) 0 (h.0 0 x (omega arith) (omega arith)))
+
+-- once one fails, all behind it fail
+abbrev pub Falls : {X : Type 0} → (X → Bool) → List X → Type 0
+Falls p [] = Unit {0}
+Falls p (x ∷ xs) = (p x ≡ false → AllByRecursion (λ y. p y ≡ false) xs) × Falls p xs
+
+all_get : {X : Type 0} (P : X → Type 0) (xs : List X) (j : ℕ) (d : X) → j < length xs → AllByRecursion P xs → P (get_or xs j d)
+all_get P [] j d lt h = absurd (omega arith)
+all_get P (x ∷ xs) zero d lt h = h.0
+all_get P (x ∷ xs) (suc j) d lt h = all_get P xs j d (omega arith) h.1
+
+pub parted : {X : Type 0} (p : X → Bool) (xs : List X) → Falls p xs → IsPartitionedBy p xs
+parted p [] h i j d le lt e = absurd (omega arith)
+parted p (x ∷ xs) h zero zero d le lt e = e
+parted p (x ∷ xs) h zero (suc j) d le lt e = go (p x) refl
+  where
+    go : (b : Bool) → p x ≡ b → p x ≡ true
+    go true t = t
+    go false f = not_both e (all_get (λ y. p y ≡ false) xs j d (omega arith) (h.0 f))
+parted p (x ∷ xs) h (suc i) zero d le lt e = absurd (omega arith)
+parted p (x ∷ xs) h (suc i) (suc j) d le lt e = parted p xs h.1 i j d (omega arith) (omega arith) e
 
 -- ---- ranges in order
 

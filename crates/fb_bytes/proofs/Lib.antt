@@ -8,4 +8,4 @@ mod Places
 mod Unions
 mod Separate
 mod Joined
-mod Halving
+pub mod Halving

@@ -13,12 +13,9 @@ use crate::fault::{Fault, last_fault};
 use cluster_core::{Answer, Event, StepFault, World, faithful_law};
 use fb_bytes::Seq;
 use fb_outside::{ReadFault, Source, Vault, read_all};
-use report_text::{CommandKind, EventLine, Report, RunReport};
+use report_text::{EventLine, Report, RunReport};
 use std::alloc::{AllocError, Global};
-use workload_text::{ScheduleLine, TextFault, Workload, read_workload};
-
-/// The most bytes of a workload's text.
-pub const MOST_BYTES: u64 = 67_108_864;
+use workload_text::{CommandKind, MOST_BYTES, ScheduleLine, TextFault, Workload, read_workload};
 
 /// How a command ended: its status, what it has to tell, why it was refused, and the file store.
 #[derive(Drop)]

@@ -2,8 +2,6 @@
 use Rattle.std.specs.Prelude.{List, [], ◌∷◌, ◌++◌, Option, Some, None, Result, Ok, Err, codes, decimal}
 use Rattle.fb_bytes.specs.Bytes.{Bytes}
 use Rattle.fb_bytes.specs.Words.{printed}
-use Rattle.workload_text.specs.declared.Command.{Command}
-use Rattle.workload_text.specs.declared.Command.TheVariants as commands
 use Rattle.workload_text.specs.declared.ScheduleLine.{ScheduleLine}
 use Rattle.workload_text.specs.declared.ScheduleLine.TheVariants.{Begin, Commit, Op}
 use Rattle.cluster_core.specs.declared.JobState.{JobState}
@@ -13,30 +11,11 @@ use Rattle.cluster_core.specs.declared.Answer.{Answer}
 use Rattle.cluster_core.specs.declared.Answer.TheVariants.{Nothing, Read, Outcome, Done, Placed, Refused, State}
 use Rattle.cluster_core.specs.declared.StepFault.{StepFault}
 use Rattle.cluster_core.specs.declared.StepFault.TheVariants.{VaultFault, VersionsSpent, NoMemory}
-use Rattle.report_text.specs.declared.command_kind.CommandKind.{CommandKind}
-use Rattle.report_text.specs.declared.command_kind.CommandKind.TheVariants as kinds
+use Rattle.workload_text.specs.Kinds.{CommandKind, command_word}
 use Rattle.report_text.specs.declared.report.EventLine.{EventLine}
 use Rattle.report_text.specs.Lines.{line}
 use Rattle.report_text.specs.Outcomes.{end_words}
 use Rattle.report_text.specs.Jobs.{state_word}
-
--- which command it is, whatever its tag and the rest of it
-abbrev pub kind_of : Command → CommandKind
-kind_of (commands.Open tag side container ranges) = kinds.Open
-kind_of (commands.Dump tag piece) = kinds.Dump
-kind_of (commands.Cut tag) = kinds.Cut
-kind_of (commands.Seal tag) = kinds.Seal
-kind_of (commands.Abort tag) = kinds.Abort
-kind_of (commands.Status tag) = kinds.Status
-
--- the word that begins the command's line in a workload
-abbrev pub command_word : CommandKind → Bytes
-command_word kinds.Open = codes "open"
-command_word kinds.Dump = codes "dump"
-command_word kinds.Cut = codes "cut"
-command_word kinds.Seal = codes "seal"
-command_word kinds.Abort = codes "abort"
-command_word kinds.Status = codes "status"
 
 -- no word where no command was left
 abbrev pub command_words : Option CommandKind → List Bytes

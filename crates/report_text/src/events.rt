@@ -7,7 +7,7 @@ ghost use Rattle.report_text.specs.Events.{command_word, command_words, reply_wo
 
 use crate::answers::put_reply;
 use crate::words::{put, put_field};
-use crate::{CommandKind, EventLine};
+use crate::EventLine;
 use cluster_core::{Answer, StepFault};
 use fb_bytes::Blob;
 use std::alloc::{AllocError, Global};

@@ -2,7 +2,6 @@
 #![tactic(auto)]
 
 mod answers;
-mod command_kind;
 mod entries;
 mod events;
 mod faults;
@@ -15,7 +14,6 @@ mod restored;
 mod tests;
 mod words;
 
-pub use command_kind::CommandKind;
 pub use faults::put_file_fault;
 pub use printing::report_bytes;
 pub use report::{EventLine, Report, Restored, RunReport};

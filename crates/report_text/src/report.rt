@@ -1,4 +1,3 @@
-use crate::CommandKind;
 use client_core::Outcomes;
 use cluster_core::{Answer, Jobs, StepFault};
 use fb_bytes::{Pairs, Seq};

@@ -4,6 +4,7 @@ use Rattle.std.specs.List.{prefix_len, slice_get, AllByRecursion}
 use Rattle.std.specs.List.Sorted.{IsPartitionedBy, IsPartitionPoint}
 use Rattle.std.proofs.lemmas.Bool.{cond-true, cond-false}
 use Rattle.std.proofs.lemmas.Option.{slice_get_read}
+use Rattle.fb_bytes.proofs.Halving.{Falls, parted, halved}
 use Rattle.fb_bytes.specs.Bytes.{Bytes, is_below}
 use Rattle.fb_bytes.specs.declared.KeyRange.{KeyRange}
 use Rattle.fb_bytes.specs.Keys.{holds, is_backwards}
@@ -16,38 +17,9 @@ use Rattle.version_map.proofs.Parts.{begins_from, ends_upto}
 
 -- ---- a search by halving
 
--- behind one that fails the test all fail it
-abbrev pub Falls : {X : Type 0} → (X → Bool) → List X → Type 0
-Falls p [] = Unit {0}
-Falls p (x ∷ xs) = (p x ≡ false → AllByRecursion (λ y. p y ≡ false) xs) × Falls p xs
-
-all_get : {X : Type 0} (P : X → Type 0) (xs : List X) (j : ℕ) (d : X) → j < length xs → AllByRecursion P xs → P (get_or xs j d)
-all_get P [] j d lt h = absurd (omega arith)
-all_get P (x ∷ xs) zero d lt h = h.0
-all_get P (x ∷ xs) (suc j) d lt h = all_get P xs j d (omega arith) h.1
-
-pub parted : {X : Type 0} (p : X → Bool) (xs : List X) → Falls p xs → IsPartitionedBy p xs
-parted p [] h i j d le lt e = absurd (omega arith)
-parted p (x ∷ xs) h zero zero d le lt e = e
-parted p (x ∷ xs) h zero (suc j) d le lt e = go (p x) refl
-  where
-    go : (b : Bool) → p x ≡ b → p x ≡ true
-    go true t = t
-    go false f = not_both e (all_get (λ y. p y ≡ false) xs j d (omega arith) (h.0 f))
-parted p (x ∷ xs) h (suc i) zero d le lt e = absurd (omega arith)
-parted p (x ∷ xs) h (suc i) (suc j) d le lt e = parted p xs h.1 i j d (omega arith) (omega arith) e
 
 one_first : (n : ℕ) → suc n ≡ 1 + n
 one_first n = omega arith
-
-pub halved : {A : Type 0} (p : A → Bool) (xs : List A) (i : ℕ) → i ≤ length xs → IsPartitionPoint (λ x. p x ≡ true) (λ x. p x ≡ false) xs i → i ≡ prefix_len p xs
-halved p [] zero le h = refl
-halved p [] (suc i) le h = absurd (omega arith)
-halved p (x ∷ xs) zero le h = sym (cond-false (p x) (1 + prefix_len p xs) 0 (h.1 0 x (omega arith) (omega arith)))
-halved p (x ∷ xs) (suc i) le h =
-    ap suc (halved p xs i (omega arith) ((λ k d l u. h.0 (suc k) d (omega arith) (omega arith)), (λ k d l u. h.1 (suc k) d (omega arith) (omega arith))))
-    ∙ one_first (prefix_len p xs)
-    ∙ sym (cond-true (p x) (1 + prefix_len p xs) 0 (h.0 0 x (omega arith) (omega arith)))
 
 -- how many stand in front, where the first passes and where it doesn't
 counted : {A : Type 0} (p : A → Bool) (x : A) (xs : List A) → p x ≡ true → prefix_len p (x ∷ xs) ≡ suc (prefix_len p xs)

@@ -1,5 +1,6 @@
 pub mod Scripts
 pub mod Commands
+pub mod Kinds
 pub mod Texts
 pub mod Lines
 pub mod Parts

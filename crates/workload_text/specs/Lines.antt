@@ -21,6 +21,8 @@ use Rattle.workload_text.specs.declared.command.Command.TheVariants.{Open, Dump,
 use Rattle.workload_text.specs.declared.schedule.ScheduleLine.TheVariants as event
 use Rattle.workload_text.specs.declared.line.Line.{Line}
 use Rattle.workload_text.specs.declared.line.Line.TheVariants.{Block, Pace, Client, Txn, Op, Operator, Order, Schedule, Event, Bad}
+use Rattle.workload_text.specs.Kinds.{command_word}
+use Rattle.workload_text.specs.declared.command_kind.CommandKind.TheVariants as kinds
 use Rattle.workload_text.specs.Commands.{IsWithin, is_container_name}
 use Rattle.workload_text.specs.Texts.{words_of, is_text_byte}
 
@@ -140,10 +142,10 @@ client_of number db =
 -- the commands that have a tag and nothing else
 abbrev pub tag_command : Bytes → Bytes → Option Command
 tag_command word tag =
-    if is_same word (codes "cut") then Some (Cut tag)
-    else if is_same word (codes "seal") then Some (Seal tag)
-    else if is_same word (codes "abort") then Some (Abort tag)
-    else if is_same word (codes "status") then Some (Status tag)
+    if is_same word (command_word kinds.Cut) then Some (Cut tag)
+    else if is_same word (command_word kinds.Seal) then Some (Seal tag)
+    else if is_same word (command_word kinds.Abort) then Some (Abort tag)
+    else if is_same word (command_word kinds.Status) then Some (Status tag)
     else None
 
 abbrev pub tag_order_of : Bytes → Bytes → Option Line
@@ -200,12 +202,12 @@ three_words word second third =
 
 abbrev pub four_words : Bytes → Bytes → Bytes → Bytes → Line
 four_words word second third fourth =
-    if is_same word (codes "open") then or_bad (open_of second third fourth [])
-    else if is_same word (codes "dump") then or_bad (dump_of second third fourth)
+    if is_same word (command_word kinds.Open) then or_bad (open_of second third fourth [])
+    else if is_same word (command_word kinds.Dump) then or_bad (dump_of second third fourth)
     else Bad
 
 abbrev pub more_words : Bytes → Bytes → Bytes → Bytes → List Bytes → Line
-more_words word second third fourth words = if is_same word (codes "open") then or_bad (open_of second third fourth words) else Bad
+more_words word second third fourth words = if is_same word (command_word kinds.Open) then or_bad (open_of second third fourth words) else Bad
 
 abbrev pub words_say : Bytes → List Bytes → Line
 words_say word [] = one_word word

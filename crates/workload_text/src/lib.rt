@@ -3,6 +3,7 @@
 
 mod client_script;
 mod command;
+mod command_kind;
 mod line;
 mod lists;
 mod pieces;
@@ -18,7 +19,8 @@ mod workload;
 
 pub use client_script::{ClientScript, Side};
 pub use command::Command;
-pub use reading::read_workload;
+pub use command_kind::CommandKind;
+pub use reading::{MOST_BYTES, read_workload};
 pub use schedule::ScheduleLine;
 pub use settings::Settings;
 pub use text_fault::TextFault;

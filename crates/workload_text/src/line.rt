@@ -7,7 +7,7 @@ ghost use Rattle.workload_text.specs.Lines.{IsSound, or_bad};
 use crate::lists::{opening, ranges_said};
 use crate::pieces::{first_word, is_text};
 use crate::words::{block_of, bytes_of, longest_of, name_of, range_of, side_of};
-use crate::{Command, ScheduleLine, Side};
+use crate::{Command, CommandKind, ScheduleLine, Side};
 use atomic_ops::Op;
 use fb_bytes::{KeyRange, Text, is_same};
 use mutations::{Mutation, TxOp};
@@ -73,7 +73,7 @@ fn words_say(alloc: Global, word: &[u8], rest: &[u8]) -> Result<Line, AllocError
     if first_word(rest).is_none() {
         return four_words(alloc, word, second, third, fourth);
     }
-    if is_same(word, b"open") {
+    if CommandKind::Open.is_word(word) {
         return open(alloc, second, third, fourth, rest);
     }
     Ok(Line::Bad)
@@ -146,10 +146,10 @@ fn four_words(
     ensures said { IfOk result (λ line. line ≡ spec.four_words word.now second.now third.now fourth.now) }
     ensures sound { IfOk result IsSound }
 {
-    if is_same(word, b"open") {
+    if CommandKind::Open.is_word(word) {
         return open(alloc, second, third, fourth, &[]);
     }
-    if is_same(word, b"dump") {
+    if CommandKind::Dump.is_word(word) {
         return dump(alloc, second, third, fourth);
     }
     Ok(Line::Bad)
@@ -256,16 +256,16 @@ fn tag_command(word: &[u8], tag: Text) -> Option<Command>
     ensures said { result ≡ spec.tag_command word.now tag }
     ensures within { IfSome result (IsWithin 0) }
 {
-    if is_same(word, b"cut") {
+    if CommandKind::Cut.is_word(word) {
         return Some(Command::Cut { tag });
     }
-    if is_same(word, b"seal") {
+    if CommandKind::Seal.is_word(word) {
         return Some(Command::Seal { tag });
     }
-    if is_same(word, b"abort") {
+    if CommandKind::Abort.is_word(word) {
         return Some(Command::Abort { tag });
     }
-    if is_same(word, b"status") {
+    if CommandKind::Status.is_word(word) {
         return Some(Command::Status { tag });
     }
     None

@@ -1,6 +1,7 @@
 use Rattle.std.proofs.Common.{rules}
 use Rattle.std.proofs.lemmas.List.Sorted.{IsPartitionPoint-from_clause}
-use Rattle.version_map.proofs.Halves.{is_begun, begun_falls, parted, halved}
+use Rattle.fb_bytes.proofs.Halving.{parted, halved}
+use Rattle.version_map.proofs.Halves.{is_begun, begun_falls}
 use Rattle.version_map.proofs.places.begun.Goals as goal
 
 pub returns : goal.returns

@@ -1,9 +1,11 @@
 ghost use Rattle.std.specs.Prelude.{◌≡◌};
-ghost use Rattle.report_text.specs.Events.{kind_of, command_word};
+ghost use Rattle.fb_bytes.specs.Bytes as bytes;
+ghost use Rattle.workload_text.specs.Kinds.{kind_of, command_word};
 
-use workload_text::Command;
+use crate::Command;
+use fb_bytes::is_same;
 
-/// Which command of the operator a step was of.
+/// Which command of the operator it is, whatever its tag and the rest of it.
 #[derive(Clone, Copy, Debug, PartialEq, Eq)]
 pub enum CommandKind {
     Open,
@@ -41,5 +43,12 @@ impl CommandKind {
             CommandKind::Abort => "abort",
             CommandKind::Status => "status",
         }
+    }
+
+    /// Whether this is the word that begins the command's line.
+    pub fn is_word(self, word: &[u8]) -> bool
+        ensures { result ≡ bytes.is_same word.now (command_word self) }
+    {
+        is_same(word, self.word().as_bytes())
     }
 }
