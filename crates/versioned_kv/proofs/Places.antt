@@ -3,7 +3,6 @@ use Rattle.std.proofs.Common.{◌≡◌, ℕ, zero, suc, ◌<◌, arith, true, L
 use Rattle.std.specs.List.{slice_get, slice_set}
 use Rattle.std.proofs.lemmas.Option.{slice_get_read}
 use Rattle.fb_bytes.specs.Bytes.{Bytes, is_same}
-use Rattle.fb_bytes.proofs.Order.{not_both}
 use Rattle.versioned_kv.specs.Chains.{Chain}
 use Rattle.versioned_kv.specs.Edits.{is_chain_of}
 

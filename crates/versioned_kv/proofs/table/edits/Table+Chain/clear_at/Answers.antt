@@ -1,4 +1,4 @@
-use Rattle.std.proofs.Common.{◌≡◌, List, ap, ◌∙◌}
+use Rattle.std.proofs.Common.{◌≡◌, ap, ◌∙◌}
 use Rattle.std.specs.List.{slice_set}
 use Rattle.versioned_kv.specs.Chains.{Chain}
 use Rattle.versioned_kv.specs.Edits.{clear_chain}

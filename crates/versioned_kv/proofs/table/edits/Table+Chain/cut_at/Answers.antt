@@ -1,8 +1,7 @@
 use Rattle.std.proofs.Common.{◌≡◌, ◌<◌, List, length, sym, ap, ◌∙◌, arith}
-use Rattle.std.specs.List.{slice_set, remove}
+use Rattle.std.specs.List.{slice_set}
 use Rattle.versioned_kv.specs.Chains.{Row, Chain}
 use Rattle.versioned_kv.specs.Edits.{without_rows}
-use Rattle.versioned_kv.proofs.Places.{read_at}
 use Rattle.versioned_kv.proofs.Cuts.{cut_gone, cut_stays}
 use Rattle.versioned_kv.proofs.table.edits.Table+Chain.cut_at.Goals as goal
 

@@ -1,5 +1,4 @@
-use Rattle.std.proofs.Common.{◌-◌, List, take, sym, ap, ◌∙◌}
-use Rattle.versioned_kv.specs.Chains.{Row}
+use Rattle.std.proofs.Common.{◌-◌, take, sym, ap, ◌∙◌}
 use Rattle.versioned_kv.proofs.Lists.{cut_over, cut_after}
 use Rattle.versioned_kv.proofs.table.edits.Table+Row.cut.Goals as goal
 

@@ -1,4 +1,4 @@
-use Rattle.std.proofs.Common.{◌-◌, List, [], ◌∷◌, ◌++◌, sym, ap, ◌∙◌}
+use Rattle.std.proofs.Common.{◌-◌, sym, ap, ◌∙◌}
 use Rattle.std.specs.List.{slice_set}
 use Rattle.versioned_kv.proofs.Places.{on_ok}
 use Rattle.versioned_kv.proofs.Lists.{put_over, put_after}
