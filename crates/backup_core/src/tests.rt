@@ -97,3 +97,11 @@ fn a_cut_goes_past_its_version_and_a_seal_begins_anew(rt: HostRuntime) -> Result
     assert_eq!(rt; job.snapshot_at(35), 30);
     Ok(())
 }
+
+fn crosses<T: Send + Sync>() {}
+
+/// Threads may hand it on and share it.
+#[test]
+fn the_job_crosses_threads() {
+    crosses::<HandJob>();
+}

@@ -27,9 +27,6 @@ fn note(
     file: (&str, u64),
 ) -> Result<(u8, Blob), AllocError> {
     let piece = range(alloc, begin, end)?;
-    if piece.is_backwards() {
-        return Ok((9, Blob::new(alloc)));
-    }
     let file = Done {
         name: Text::from_str(alloc, file.0)?,
         version: file.1,
@@ -97,4 +94,48 @@ fn the_manifest_lists_the_files_in_byte_order(rt: HostRuntime) -> Result<(), Fai
     }
     assert_eq!(rt; names.as_slice(), b"abc".as_slice());
     Ok(())
+}
+
+#[test]
+fn a_piece_without_keys_is_done_and_one_is_taken_back(rt: HostRuntime) -> Result<(), Fail> {
+    let ranges = ranges(rt.alloc())?;
+    let mut map = noted(rt.alloc(), &ranges)?;
+    let file = Done {
+        name: Text::from_str(rt.alloc(), "b")?,
+        version: 40,
+        bytes: 23,
+    };
+    map.done(range(rt.alloc(), b"zz", b"b")?, file)?;
+    assert_eq!(rt; map.noted().len(), 2);
+    map.take_back(b"a");
+    map.take_back(b"b");
+    assert_eq!(rt; map.noted().len(), 1);
+    Ok(())
+}
+
+#[test]
+fn bytes_past_the_greatest_number_in_a_name_are_want_of_memory(
+    rt: HostRuntime,
+) -> Result<(), Fail> {
+    let ranges = ranges(rt.alloc())?;
+    let mut map = noted(rt.alloc(), &ranges)?;
+    let file = Done {
+        name: Text::from_str(rt.alloc(), "b")?,
+        version: 40,
+        bytes: (1 << 63) - 40,
+    };
+    map.done(range(rt.alloc(), b"f", b"m")?, file)?;
+    let answer = map.manifest();
+    assert!(rt; matches!(&answer, Err(MapFault::NoMemory)));
+    Ok(())
+}
+
+fn crosses<T: Send + Sync>() {}
+
+/// Threads may hand these on and share them.
+#[test]
+fn types_cross_threads() {
+    crosses::<FileMap>();
+    crosses::<MapFault>();
+    crosses::<Noted>();
 }
