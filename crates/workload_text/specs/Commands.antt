@@ -1,5 +1,22 @@
 -- What a command of the operator keeps.
-use Rattle.std.specs.Prelude.{◌≡◌, ◌<◌, ◌≤◌, ℕ, Bool, true, false, not, ◌&&◌, ◌||◌, [], ◌∷◌, length, nat_eq, nat_le, List}
+use Rattle.std.specs.Prelude.{
+  ◌≡◌,
+  ◌<◌,
+  ◌≤◌,
+  ℕ,
+  Bool,
+  true,
+  false,
+  not,
+  ◌&&◌,
+  ◌||◌,
+  [],
+  ◌∷◌,
+  length,
+  nat_eq,
+  nat_le,
+  List,
+}
 use Rattle.std.specs.List.{list_all, AllByRecursion-prop}
 use Rattle.std.specs.Coded.{×_prop, le_prop}
 use Rattle.std.proofs.Math.Bool.{Bool-set}
@@ -8,7 +25,14 @@ use Rattle.fb_bytes.specs.Bytes.{Bytes, is_below}
 use Rattle.fb_bytes.specs.declared.KeyRange.{KeyRange}
 use Rattle.fb_bytes.specs.Keys.{is_backwards, is_past_user, BeginPast, AreSeparate, AreRanges}
 use Rattle.workload_text.specs.declared.command.Command.{Command}
-use Rattle.workload_text.specs.declared.command.Command.TheVariants.{Open, Dump, Cut, Seal, Abort, Status}
+use Rattle.workload_text.specs.declared.command.Command.TheVariants.{
+  Open,
+  Dump,
+  Cut,
+  Seal,
+  Abort,
+  Status,
+}
 
 -- ---- names
 
@@ -69,16 +93,23 @@ BeginPast-prop key (range ∷ ranges) = Bool-set (is_below key range.begin) true
 
 AreSeparate-prop : (ranges : List KeyRange) → IsProp (AreSeparate ranges)
 AreSeparate-prop [] = λ a b i. tt
-AreSeparate-prop (range ∷ ranges) = λ a b i. (Bool-set _ _ a.0 b.0 i, BeginPast-prop range.end ranges a.1 b.1 i, AreSeparate-prop ranges a.2 b.2 i)
+AreSeparate-prop (range ∷ ranges) =
+    λ a b i. (
+      Bool-set _ _ a.0 b.0 i,
+      BeginPast-prop range.end ranges a.1 b.1 i,
+      AreSeparate-prop ranges a.2 b.2 i,
+    )
 
 AreRanges-prop : (ranges : List KeyRange) → IsProp (AreRanges ranges)
 AreRanges-prop ranges = λ a b i. record {
   separate = AreSeparate-prop ranges a.separate b.separate i;
-  user = AllByRecursion-prop (λ range. is_past_user range ≡ false) (λ range. Bool-set (is_past_user range) false) ranges a.user b.user i;
+  user = AllByRecursion-prop (λ range. is_past_user range ≡ false)
+      (λ range. Bool-set (is_past_user range) false) ranges a.user b.user i;
   few = le_prop a.few b.few i;
 }
 
-pub IsOpening-prop : (tag container : Bytes) (ranges : List KeyRange) → IsProp (IsOpening tag container ranges)
+pub IsOpening-prop : (tag container : Bytes) (ranges : List KeyRange)
+    → IsProp (IsOpening tag container ranges)
 IsOpening-prop tag container ranges = λ a b i. record {
   tag_named = Bool-set _ _ a.tag_named b.tag_named i;
   container_named = Bool-set _ _ a.container_named b.container_named i;

@@ -1,5 +1,25 @@
 -- What a line says.
-use Rattle.std.specs.Prelude.{◌≡◌, ℕ, ◌+◌, max, true, ◌&&◌, ◌||◌, List, [], ◌∷◌, ◌++◌, length, Option, Some, None, nat_eq, codes, slice_index, if◌then◌else◌}
+use Rattle.std.specs.Prelude.{
+  ◌≡◌,
+  ℕ,
+  ◌+◌,
+  max,
+  true,
+  ◌&&◌,
+  ◌||◌,
+  List,
+  [],
+  ◌∷◌,
+  ◌++◌,
+  length,
+  Option,
+  Some,
+  None,
+  nat_eq,
+  codes,
+  slice_index,
+  if◌then◌else◌,
+}
 use Rattle.std.specs.List.{list_all}
 use Rattle.std.specs.Result.{result_ok}
 use Rattle.atomic_ops.specs.Codes.{op_of_word}
@@ -17,10 +37,28 @@ use Rattle.mutations.specs.declared.TxOp.TheVariants.{Write}
 use Rattle.workload_text.specs.declared.client_script.Side.{Side}
 use Rattle.workload_text.specs.declared.client_script.Side.TheVariants.{Src, Dst}
 use Rattle.workload_text.specs.declared.command.Command.{Command}
-use Rattle.workload_text.specs.declared.command.Command.TheVariants.{Open, Dump, Cut, Seal, Abort, Status}
+use Rattle.workload_text.specs.declared.command.Command.TheVariants.{
+  Open,
+  Dump,
+  Cut,
+  Seal,
+  Abort,
+  Status,
+}
 use Rattle.workload_text.specs.declared.schedule.ScheduleLine.TheVariants as event
 use Rattle.workload_text.specs.declared.line.Line.{Line}
-use Rattle.workload_text.specs.declared.line.Line.TheVariants.{Block, Pace, Client, Txn, Op, Operator, Order, Schedule, Event, Bad}
+use Rattle.workload_text.specs.declared.line.Line.TheVariants.{
+  Block,
+  Pace,
+  Client,
+  Txn,
+  Op,
+  Operator,
+  Order,
+  Schedule,
+  Event,
+  Bad,
+}
 use Rattle.workload_text.specs.Kinds.{command_word}
 use Rattle.workload_text.specs.declared.command_kind.CommandKind.TheVariants as kinds
 use Rattle.workload_text.specs.Commands.{IsWithin, is_container_name}
@@ -159,7 +197,8 @@ abbrev pub dump_of : Bytes → Bytes → Bytes → Option Line
 dump_of tag begin end = do
   name ← name_of tag
   piece ← range_of begin end
-  if is_backwards piece || is_past_user piece then None else Some (Order (Dump name piece) (longest_of piece))
+  if is_backwards piece || is_past_user piece then None
+      else Some (Order (Dump name piece) (longest_of piece))
 
 abbrev pub opening : Bytes → Side → Bytes → List KeyRange → Option Line
 opening tag side container list = do
@@ -207,19 +246,23 @@ four_words word second third fourth =
     else Bad
 
 abbrev pub more_words : Bytes → Bytes → Bytes → Bytes → List Bytes → Line
-more_words word second third fourth words = if is_same word (command_word kinds.Open) then or_bad (open_of second third fourth words) else Bad
+more_words word second third fourth words =
+    if is_same word (command_word kinds.Open) then or_bad (open_of second third fourth words)
+    else Bad
 
 abbrev pub words_say : Bytes → List Bytes → Line
 words_say word [] = one_word word
 words_say word (second ∷ []) = two_words word second
 words_say word (second ∷ third ∷ []) = three_words word second third
 words_say word (second ∷ third ∷ fourth ∷ []) = four_words word second third fourth
-words_say word (second ∷ third ∷ fourth ∷ fifth ∷ words) = more_words word second third fourth (fifth ∷ words)
+words_say word (second ∷ third ∷ fourth ∷ fifth ∷ words) =
+    more_words word second third fourth (fifth ∷ words)
 
 -- a line without words says nothing, nor does one whose first word begins with `#`
 abbrev pub said_by : List Bytes → Option Line
 said_by [] = None
-said_by (word ∷ words) = if nat_eq (slice_index word 0) 35 then None else Some (words_say word words)
+said_by (word ∷ words) =
+    if nat_eq (slice_index word 0) 35 then None else Some (words_say word words)
 
 -- what a line says, if it says something
 abbrev pub said : Bytes → Option Line

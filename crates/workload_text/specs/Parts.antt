@@ -1,12 +1,44 @@
--- The parts of a text behind its settings: its client, its operator and its schedule; and what isn't allowed in each of them.
-use Rattle.std.specs.Prelude.{ℕ, ◌+◌, Bool, true, false, ◌&&◌, List, [], ◌∷◌, map, take, drop, Option, Some, None, is_some, Result, Ok, Err, nat_lt, nat_le, if◌then◌else◌}
+-- The parts of a text behind its settings: its client, its operator and its schedule; and what
+-- isn't allowed in each of them.
+use Rattle.std.specs.Prelude.{
+  ℕ,
+  ◌+◌,
+  Bool,
+  true,
+  false,
+  ◌&&◌,
+  List,
+  [],
+  ◌∷◌,
+  map,
+  take,
+  drop,
+  Option,
+  Some,
+  None,
+  is_some,
+  Result,
+  Ok,
+  Err,
+  nat_lt,
+  nat_le,
+  if◌then◌else◌,
+}
 use Rattle.block_frame.specs.Profiles.{key_limit_of, limit_of}
 use Rattle.mutations.specs.declared.TxOp.{TxOp}
 use Rattle.mutations.specs.Transactions.{tx_fault, ◌or_else◌}
 use Rattle.workload_text.specs.declared.command.Command.{Command}
 use Rattle.workload_text.specs.declared.schedule.ScheduleLine.{ScheduleLine}
 use Rattle.workload_text.specs.declared.line.Line.{Line}
-use Rattle.workload_text.specs.declared.line.Line.TheVariants.{Pace, Txn, Op, Operator, Order, Schedule, Event}
+use Rattle.workload_text.specs.declared.line.Line.TheVariants.{
+  Pace,
+  Txn,
+  Op,
+  Operator,
+  Order,
+  Schedule,
+  Event,
+}
 use Rattle.workload_text.specs.Lines.{Numbered}
 
 -- ---- the client's part
@@ -29,9 +61,20 @@ pub record Parts : Type 0 where
 
 -- a line in front of lines that are cut
 abbrev pub parts_with : Line → ℕ → List Numbered → Parts → Parts
-parts_with (Op op) number lines p = record { leading = record { number = number; op = op } ∷ p.leading; txns = p.txns; rest = p.rest }
-parts_with Txn number lines p = record { leading = []; txns = record { number = number; ops = p.leading } ∷ p.txns; rest = p.rest }
-parts_with line number lines p = record { leading = []; txns = []; rest = record { number = number; line = line } ∷ lines }
+parts_with (Op op) number lines p =
+    record {
+      leading = record { number = number; op = op } ∷ p.leading;
+      txns = p.txns;
+      rest = p.rest;
+    }
+parts_with Txn number lines p =
+    record {
+      leading = [];
+      txns = record { number = number; ops = p.leading } ∷ p.txns;
+      rest = p.rest;
+    }
+parts_with line number lines p =
+    record { leading = []; txns = []; rest = record { number = number; line = line } ∷ lines }
 
 abbrev pub parts_of : List Numbered → Parts
 parts_of [] = record { leading = []; txns = []; rest = [] }
@@ -51,14 +94,19 @@ abbrev pub first_op : List Operation → Option ℕ
 first_op [] = None
 first_op (o ∷ ops) = Some o.number
 
--- A transaction has at most 10,000 operations. The line that begins it isn't allowed where a commit of them would be refused; else a further operation isn't.
+-- A transaction has at most 10,000 operations. The line that begins it isn't allowed where a commit
+-- of them would be refused; else a further operation isn't.
 abbrev pub bad_in : ℕ → Transaction → Option ℕ
-bad_in block txn = if is_refused block (take 10000 (ops_of txn.ops)) then Some txn.number else first_op (drop 10000 txn.ops)
+bad_in block txn =
+    if is_refused block (take 10000 (ops_of txn.ops)) then Some txn.number
+    else first_op (drop 10000 txn.ops)
 
 -- a client has at most 100,000 transactions, of which some came before
 abbrev pub bad_among : ℕ → ℕ → List Transaction → Option ℕ
 bad_among block before [] = None
-bad_among block before (txn ∷ txns) = if nat_lt before 100000 then bad_in block txn or_else bad_among block (before + 1) txns else Some txn.number
+bad_among block before (txn ∷ txns) =
+    if nat_lt before 100000 then bad_in block txn or_else bad_among block (before + 1) txns
+    else Some txn.number
 
 -- ---- the operator's part
 
@@ -77,12 +125,15 @@ in_front_of command (Err number) = Err number
 
 -- an operator has at most 1,000 commands, of which some came before
 abbrev pub commands_with : ℕ → ℕ → Line → ℕ → List Numbered → Result Operated ℕ → Result Operated ℕ
-commands_with block before (Order command longest) number lines rest = if is_short block longest && nat_lt before 1000 then in_front_of command rest else Err number
-commands_with block before line number lines rest = Ok (record { commands = []; rest = record { number = number; line = line } ∷ lines })
+commands_with block before (Order command longest) number lines rest =
+    if is_short block longest && nat_lt before 1000 then in_front_of command rest else Err number
+commands_with block before line number lines rest =
+    Ok (record { commands = []; rest = record { number = number; line = line } ∷ lines })
 
 abbrev pub commands_of : ℕ → ℕ → List Numbered → Result Operated ℕ
 commands_of block before [] = Ok (record { commands = []; rest = [] })
-commands_of block before (l ∷ lines) = commands_with block before l.line l.number lines (commands_of block (before + 1) lines)
+commands_of block before (l ∷ lines) =
+    commands_with block before l.line l.number lines (commands_of block (before + 1) lines)
 
 abbrev pub is_operator : Line → Bool
 is_operator Operator = true
@@ -91,7 +142,9 @@ is_operator line = false
 -- the operator may be missing
 abbrev pub operator_part : ℕ → List Numbered → Result Operated ℕ
 operator_part block [] = Ok (record { commands = []; rest = [] })
-operator_part block (l ∷ lines) = if is_operator l.line then commands_of block 0 lines else Ok (record { commands = []; rest = l ∷ lines })
+operator_part block (l ∷ lines) =
+    if is_operator l.line then commands_of block 0 lines
+    else Ok (record { commands = []; rest = l ∷ lines })
 
 -- ---- the schedule
 
@@ -104,9 +157,11 @@ in_front event (Ok events) = Ok (event ∷ events)
 in_front event (Err number) = Err number
 
 -- a schedule has at most 1,000,000 events, of which some came before
-abbrev pub next_event : ℕ → ℕ → Option ScheduleLine → Result (List ScheduleLine) ℕ → Result (List ScheduleLine) ℕ
+abbrev pub next_event : ℕ → ℕ → Option ScheduleLine → Result (List ScheduleLine) ℕ
+    → Result (List ScheduleLine) ℕ
 next_event before number None rest = Err number
-next_event before number (Some event) rest = if nat_lt before 1000000 then in_front event rest else Err number
+next_event before number (Some event) rest =
+    if nat_lt before 1000000 then in_front event rest else Err number
 
 abbrev pub events : ℕ → List Numbered → Result (List ScheduleLine) ℕ
 events before [] = Ok []

@@ -1,5 +1,23 @@
 -- How the reader goes from line to line.
-use Rattle.std.specs.Prelude.{◌≡◌, ℕ, true, ◌&&◌, List, [], ◌∷◌, ◌++◌, Option, Some, None, Result, Ok, Err, length, nat_lt, if◌then◌else◌}
+use Rattle.std.specs.Prelude.{
+  ◌≡◌,
+  ℕ,
+  true,
+  ◌&&◌,
+  List,
+  [],
+  ◌∷◌,
+  ◌++◌,
+  Option,
+  Some,
+  None,
+  Result,
+  Ok,
+  Err,
+  length,
+  nat_lt,
+  if◌then◌else◌,
+}
 use Rattle.std.specs.List.{AllByRecursion}
 use Rattle.block_frame.specs.Profiles.{is_block}
 use Rattle.mutations.specs.declared.TxOp.{TxOp}
@@ -7,7 +25,15 @@ use Rattle.workload_text.specs.declared.command.Command.{Command}
 use Rattle.workload_text.specs.declared.line.Line.{Line}
 use Rattle.workload_text.specs.declared.line.Line.TheVariants as line
 use Rattle.workload_text.specs.declared.reader.Place.{Place}
-use Rattle.workload_text.specs.declared.reader.Place.TheVariants.{Start, Block, Pace, Client, Txn, Operator, Schedule}
+use Rattle.workload_text.specs.declared.reader.Place.TheVariants.{
+  Start,
+  Block,
+  Pace,
+  Client,
+  Txn,
+  Operator,
+  Schedule,
+}
 use Rattle.workload_text.specs.declared.reader.Reader.{Reader}
 use Rattle.workload_text.specs.Commands.{IsCommand}
 use Rattle.workload_text.specs.Parts.{is_refused, is_short}
@@ -19,11 +45,21 @@ and_then (Ok x) f = f x
 
 -- at a text's first line
 abbrev pub at_start : Reader
-at_start = record { place = Start; block = 256; client = None; txns = []; ops = []; operator = []; schedule = [] }
+at_start = record {
+  place = Start;
+  block = 256;
+  client = None;
+  txns = [];
+  ops = [];
+  operator = [];
+  schedule = [];
+}
 
 -- Behind a transaction's last operation it is kept, unless a commit would refuse it.
 abbrev pub closed_at : Place → Reader → Result Reader ℕ
-closed_at (Txn number) r = if is_refused r.block r.ops then Err number else Ok (record r { place = Client; txns = r.txns ++ r.ops ∷ []; ops = [] })
+closed_at (Txn number) r =
+    if is_refused r.block r.ops then Err number
+    else Ok (record r { place = Client; txns = r.txns ++ r.ops ∷ []; ops = [] })
 closed_at other r = Ok r
 
 abbrev pub closed : Reader → Result Reader ℕ
@@ -39,21 +75,26 @@ with_op number op other r = Err number
 
 -- a command of the operator
 abbrev pub with_command : ℕ → Command → ℕ → Reader → Result Reader ℕ
-with_command number command longest r = if is_short r.block longest && nat_lt (length r.operator) 1000 then Ok (record r { operator = r.operator ++ command ∷ [] }) else Err number
+with_command number command longest r =
+    if is_short r.block longest && nat_lt (length r.operator) 1000
+    then Ok (record r { operator = r.operator ++ command ∷ [] }) else Err number
 
 -- any other line, where no transaction is open
 abbrev pub with_part : ℕ → Line → Place → Reader → Result Reader ℕ
 with_part number (line.Block block) Start r = Ok (record r { place = Block; block = block })
 with_part number line.Pace Block r = Ok (record r { place = Pace })
 with_part number (line.Client side) Pace r = Ok (record r { place = Client; client = Some side })
-with_part number line.Txn Client r = if nat_lt (length r.txns) 100000 then Ok (record r { place = Txn number }) else Err number
+with_part number line.Txn Client r =
+    if nat_lt (length r.txns) 100000 then Ok (record r { place = Txn number }) else Err number
 with_part number line.Operator Pace r = Ok (record r { place = Operator })
 with_part number line.Operator Client r = Ok (record r { place = Operator })
 with_part number (line.Order command longest) Operator r = with_command number command longest r
 with_part number line.Schedule Pace r = Ok (record r { place = Schedule })
 with_part number line.Schedule Client r = Ok (record r { place = Schedule })
 with_part number line.Schedule Operator r = Ok (record r { place = Schedule })
-with_part number (line.Event event) Schedule r = if nat_lt (length r.schedule) 1000000 then Ok (record r { schedule = r.schedule ++ event ∷ [] }) else Err number
+with_part number (line.Event event) Schedule r =
+    if nat_lt (length r.schedule) 1000000 then Ok (record r { schedule = r.schedule ++ event ∷ [] })
+    else Err number
 with_part number line other r = Err number
 
 abbrev pub with_line : ℕ → Line → Reader → Result Reader ℕ
@@ -81,4 +122,5 @@ IsFresh other operator = Unit {0}
 
 -- the block is one of the four, and the commands so far may be given
 abbrev pub IsReady : Reader → Type 0
-IsReady r = (is_block r.block ≡ true) × AllByRecursion (IsCommand r.block) r.operator × IsFresh r.place r.operator
+IsReady r = (is_block r.block ≡ true) × AllByRecursion (IsCommand r.block) r.operator
+    × IsFresh r.place r.operator

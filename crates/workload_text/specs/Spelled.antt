@@ -8,7 +8,17 @@ use Rattle.workload_text.specs.declared.client_script.ClientScript.{ClientScript
 use Rattle.workload_text.specs.declared.command.Command.{Command}
 use Rattle.workload_text.specs.declared.schedule.ScheduleLine.{ScheduleLine}
 use Rattle.workload_text.specs.declared.line.Line.{Line}
-use Rattle.workload_text.specs.declared.line.Line.TheVariants.{Block, Pace, Client, Txn, Op, Operator, Order, Schedule, Event}
+use Rattle.workload_text.specs.declared.line.Line.TheVariants.{
+  Block,
+  Pace,
+  Client,
+  Txn,
+  Op,
+  Operator,
+  Order,
+  Schedule,
+  Event,
+}
 use Rattle.workload_text.specs.Texts.{lines_of}
 use Rattle.workload_text.specs.Lines.{Numbered, numbered}
 use Rattle.workload_text.specs.Parts.{is_refused}
@@ -38,11 +48,13 @@ pub record AreOrders (block : ℕ) (operator : List Command) (lines : List Line)
 
 -- The line `operator` may be missing where there are no commands.
 abbrev pub AreOperatorLines : ℕ → List Command → List Line → Type 0
-AreOperatorLines block operator lines = ((lines ≡ []) × (operator ≡ [])) ⊎ AreOrders block operator lines
+AreOperatorLines block operator lines =
+    ((lines ≡ []) × (operator ≡ [])) ⊎ AreOrders block operator lines
 
 -- The line `schedule` may be missing where there are no events.
 abbrev pub AreScheduleLines : List ScheduleLine → List Line → Type 0
-AreScheduleLines schedule lines = ((lines ≡ []) × (schedule ≡ [])) ⊎ (lines ≡ Schedule ∷ map Event schedule)
+AreScheduleLines schedule lines =
+    ((lines ≡ []) × (schedule ≡ [])) ⊎ (lines ≡ Schedule ∷ map Event schedule)
 
 -- a transaction within the limits
 pub record IsAllowed (block : ℕ) (ops : List TxOp) : Type 0 where
@@ -67,4 +79,6 @@ pub record IsTextOf (text : Bytes) (w : Built) : Type 0 where
   pub few : length w.schedule ≤ 1000000
   pub schedule_lines : List Line
   pub schedule : AreScheduleLines w.schedule schedule_lines
-  pub lines : said_lines text ≡ Block w.block ∷ Pace ∷ (flat_map client_lines w.clients ++ (operator_lines ++ schedule_lines))
+  pub lines : said_lines text
+      ≡ Block w.block ∷ Pace ∷ (flat_map client_lines w.clients
+      ++ (operator_lines ++ schedule_lines))

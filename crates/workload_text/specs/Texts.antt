@@ -13,7 +13,8 @@ is_line_feed byte = nat_eq byte 10
 -- The lines of a text: a line feed ends its line, and the last one may be missing.
 abbrev pub lines_of : Bytes → List Bytes
 lines_of [] = []
-lines_of (byte ∷ text) = if is_line_feed byte then [] ∷ lines_of text else in_first byte (lines_of text)
+lines_of (byte ∷ text) =
+    if is_line_feed byte then [] ∷ lines_of text else in_first byte (lines_of text)
 
 abbrev pub is_space : ℕ → Bool
 is_space byte = nat_eq byte 32
@@ -21,7 +22,8 @@ is_space byte = nat_eq byte 32
 -- a byte that is no space, in front of a line and its words
 abbrev pub in_word : ℕ → Bytes → List Bytes → List Bytes
 in_word byte [] words = (byte ∷ []) ∷ words
-in_word byte (next ∷ line) words = if is_space next then (byte ∷ []) ∷ words else in_first byte words
+in_word byte (next ∷ line) words =
+    if is_space next then (byte ∷ []) ∷ words else in_first byte words
 
 -- The words of a line: what stands between its spaces.
 abbrev pub words_of : Bytes → List Bytes

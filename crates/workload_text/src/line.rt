@@ -143,7 +143,8 @@ fn four_words(
     third: &[u8],
     fourth: &[u8],
 ) -> Result<Line, AllocError>
-    ensures said { IfOk result (λ line. line ≡ spec.four_words word.now second.now third.now fourth.now) }
+    ensures said { IfOk result
+        (λ line. line ≡ spec.four_words word.now second.now third.now fourth.now) }
     ensures sound { IfOk result IsSound }
 {
     if CommandKind::Open.is_word(word) {
@@ -298,7 +299,8 @@ fn open(
     container: &[u8],
     ranges: &[u8],
 ) -> Result<Line, AllocError>
-    ensures said { IfOk result (λ line. line ≡ or_bad (spec.open_of tag.now db.now container.now (words_of ranges.now))) }
+    ensures said { IfOk result
+        (λ line. line ≡ or_bad (spec.open_of tag.now db.now container.now (words_of ranges.now))) }
     ensures sound { IfOk result IsSound }
 {
     let Some(tag) = name_of(alloc, tag)? else {

@@ -19,7 +19,8 @@ const USER_END: &[u8; 1] = &[0xff];
 
 /// The ranges that words spell, two for each; without words the whole user space.
 pub fn ranges_said(alloc: Global, words: &[u8]) -> Result<Option<Seq<KeyRange>>, AllocError>
-    ensures { IfOk result (λ list. list ≡ option_map or_whole_space (spec.list_of (words_of words.now))) }
+    ensures { IfOk result
+        (λ list. list ≡ option_map or_whole_space (spec.list_of (words_of words.now))) }
 {
     let Some(mut list) = list_of(alloc, words)? else {
         return Ok(None);

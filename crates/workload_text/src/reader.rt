@@ -94,7 +94,8 @@ impl Reader {
 
     fn take_op(&mut self, number: u64, op: TxOp) -> Result<(), TextFault>
         requires { IsReady self.old }
-        ensures takes { Gives (λ _. self.new) result (spec.with_op number op self.old.place self.old) }
+        ensures takes { Gives (λ _. self.new) result
+            (spec.with_op number op self.old.place self.old) }
         ensures ready { OnOk result (IsReady self.new) }
     {
         let Place::Txn { line } = self.place else {
@@ -113,7 +114,8 @@ impl Reader {
     fn take_part(&mut self, number: u64, line: Line) -> Result<(), TextFault>
         requires line { IsSound line }
         requires ready { IsReady self.old }
-        ensures takes { Gives (λ _. self.new) result (spec.with_part number line self.old.place self.old) }
+        ensures takes { Gives (λ _. self.new) result
+            (spec.with_part number line self.old.place self.old) }
         ensures ready { OnOk result (IsReady self.new) }
     {
         match (self.place, line) {
@@ -163,7 +165,8 @@ impl Reader {
         requires within { IsWithin longest command }
         requires ready { IsReady self.old }
         requires place { self.old.place ≡ places.Operator }
-        ensures takes { Gives (λ _. self.new) result (spec.with_command number command longest self.old) }
+        ensures takes { Gives (λ _. self.new) result
+            (spec.with_command number command longest self.old) }
         ensures ready { OnOk result (IsReady self.new) }
     {
         if longest <= key_limit(self.block) && self.operator.len() < MOST_COMMANDS {

@@ -12,8 +12,8 @@ use crate::reader::Reader;
 use crate::{TextFault, Workload};
 use std::alloc::Global;
 
-/// The most bytes of a text.
-const MOST_BYTES: usize = 67_108_864;
+/// The most bytes of the text of a workload.
+pub const MOST_BYTES: u64 = 67_108_864;
 
 /// What the text of a workload says.
 pub fn read_workload(alloc: Global, bytes: &[u8]) -> Result<Workload, TextFault>
@@ -32,7 +32,7 @@ fn read_text(alloc: Global, bytes: &[u8]) -> Result<Workload, TextFault>
     ensures built { Gives what result (built bytes.now) }
     ensures long { most_bytes < length bytes.now → result ≡ Err (TextFault.NotBuilt 0) }
 {
-    if bytes.len() > MOST_BYTES {
+    if bytes.len() as u64 > MOST_BYTES {
         return Err(TextFault::NotBuilt { line: 0 });
     }
     read_lines(alloc, bytes)
@@ -40,7 +40,8 @@ fn read_text(alloc: Global, bytes: &[u8]) -> Result<Workload, TextFault>
 
 fn read_lines(alloc: Global, text: &[u8]) -> Result<Workload, TextFault>
     requires { length text.now < 2 ^ 32 }
-    ensures { Gives what result (whole (length (lines_of text.now) + 1) (numbered 1 (lines_of text.now))) }
+    ensures { Gives what result
+        (whole (length (lines_of text.now) + 1) (numbered 1 (lines_of text.now))) }
 {
     let mut reader = Reader::new(alloc);
     let mut rest = text;
@@ -56,7 +57,8 @@ fn read_lines(alloc: Global, text: &[u8]) -> Result<Workload, TextFault>
 
 fn take_line(alloc: Global, reader: &mut Reader, number: u64, line: &[u8]) -> Result<(), TextFault>
     requires { IsReady reader.old }
-    ensures takes { Gives (λ _. reader.new) result (with_said number (lines.said line.now) reader.old) }
+    ensures takes { Gives (λ _. reader.new) result
+        (with_said number (lines.said line.now) reader.old) }
     ensures ready { OnOk result (IsReady reader.new) }
 {
     match said(alloc, line)? {
