@@ -11,7 +11,7 @@ use Rattle.snapshot_plan.specs.declared.Noted.{Noted}
 use Rattle.snapshot_plan.specs.Noted.{Map, with_noted, without, manifest_of}
 
 -- what contracts see of a hand job
-pub record HandJob : Type 0 where
+pub record BackupJob : Type 0 where
   -- its ranges, and the pieces noted for the present snapshot
   pub map : Map
   -- the version from which on it logs
@@ -23,7 +23,7 @@ pub record HandJob : Type 0 where
   pub aborted : Bool
 
 -- a job of these ranges that logs from the version on and has dumped nothing
-abbrev pub opened : List KeyRange → ℕ → HandJob
+abbrev pub opened : List KeyRange → ℕ → BackupJob
 opened ranges version = record {
   map = record { ranges = ranges; noted = [] };
   begin = version;
@@ -37,20 +37,21 @@ abbrev pub begun_at : List Noted → ℕ → ℕ → ℕ
 begun_at [] now begun = now
 begun_at (one ∷ noted) now begun = begun
 
--- the number of the snapshot that a dump at this version belongs to: the version, where it is the first
-abbrev pub snapshot_at : HandJob → ℕ → ℕ
+-- the number of the snapshot that a dump at this version belongs to: the version, where it is the
+-- first
+abbrev pub snapshot_at : BackupJob → ℕ → ℕ
 snapshot_at job now = begun_at job.map.noted now job.snapshot
 
 -- the name of a range file that is dumped at this version
-abbrev pub range_name : HandJob → ℕ → ℕ → ℕ → Name
+abbrev pub range_name : BackupJob → ℕ → ℕ → ℕ → Name
 range_name job now ticket block = Range (snapshot_at job now) now ticket block
 
 -- the name of the log file from where the last one ended through this version
-abbrev pub log_name : HandJob → ℕ → ℕ → ℕ → Name
+abbrev pub log_name : BackupJob → ℕ → ℕ → ℕ → Name
 log_name job now ticket block = Log job.next (now + 1) ticket block
 
 -- the name of the manifest of the present snapshot
-abbrev pub manifest_name : HandJob → ℕ → Name
+abbrev pub manifest_name : BackupJob → ℕ → Name
 manifest_name job ticket = name_for (manifest_of job.map.noted) ticket
 
 -- the spelling of a name, empty where there is none
@@ -58,25 +59,26 @@ abbrev pub text_of : Name → Bytes
 text_of name = unwrap_or (spelling name) []
 
 -- the job once a piece was dumped at this version into this file
-abbrev pub dumped : HandJob → KeyRange → ℕ → Done → HandJob
+abbrev pub dumped : BackupJob → KeyRange → ℕ → Done → BackupJob
 dumped job piece now file = record job {
   snapshot = snapshot_at job now;
   map = record job.map { noted = with_noted (record { piece = piece; file = file }) job.map.noted };
 }
 
--- the job once the piece that begins at the key is taken back, before which its snapshot had this number
-abbrev pub taken_back : HandJob → Bytes → ℕ → HandJob
+-- the job once the piece that begins at the key is taken back, before which its snapshot had this
+-- number
+abbrev pub taken_back : BackupJob → Bytes → ℕ → BackupJob
 taken_back job begin snapshot =
     record job { snapshot = snapshot; map = record job.map { noted = without begin job.map.noted } }
 
 -- the job once its log files reach through this version
-abbrev pub cut_to : HandJob → ℕ → HandJob
+abbrev pub cut_to : BackupJob → ℕ → BackupJob
 cut_to job now = record job { next = now + 1 }
 
 -- the job once its snapshot is sealed: the next one begins with no piece
-abbrev pub sealed : HandJob → HandJob
+abbrev pub sealed : BackupJob → BackupJob
 sealed job = record job { map = record job.map { noted = [] } }
 
 -- the job once it is given up
-abbrev pub aborted_job : HandJob → HandJob
+abbrev pub aborted_job : BackupJob → BackupJob
 aborted_job job = record job { aborted = true }

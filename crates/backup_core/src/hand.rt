@@ -16,7 +16,7 @@ use std::marker::Model;
 /// A job whose dumps, cuts and seals are called one by one: what is dumped of its present snapshot,
 /// and how far it logged.
 #[derive(Debug, Drop)]
-pub struct HandJob {
+pub struct BackupJob {
     map: FileMap,
     begin: u64,
     next: u64,
@@ -24,21 +24,21 @@ pub struct HandJob {
     aborted: bool,
 }
 
-impl Model for HandJob {
+impl Model for BackupJob {
     ghost use Rattle.backup_core.specs.Hand as spec;
 
-    ghost Value = { spec.HandJob };
+    ghost Value = { spec.BackupJob };
 
     ghost view = { λ h. record { map = h.map; begin = h.begin; next = h.next; snapshot = h.snapshot; aborted = h.aborted } };
 }
 
-impl HandJob {
+impl BackupJob {
     /// A job of these ranges that logs from the version on.
     pub fn new(alloc: Global, ranges: &Ranges, version: u64) -> Result<Self, AllocError>
         ensures { IfOk result (λ job. job ≡ spec.opened ranges.now version) }
     {
         let map = FileMap::new(alloc, ranges)?;
-        Ok(HandJob {
+        Ok(BackupJob {
             map,
             begin: version,
             next: version,
@@ -97,7 +97,8 @@ impl HandJob {
     /// Why the piece can't be dumped, if it can't.
     pub fn check(&self, piece: &KeyRange) -> Result<(), MapFault>
         ensures ok { OnOk result (fault_of self.now.map piece.now ≡ None) }
-        ensures err { IfErr result (λ fault. (fault ≡ MapFault.NoMemory) ⊎ (fault_of self.now.map piece.now ≡ Some fault)) }
+        ensures err { IfErr result (λ fault. (fault ≡ MapFault.NoMemory)
+            ⊎ (fault_of self.now.map piece.now ≡ Some fault)) }
     {
         self.map.check(piece)
     }
@@ -106,7 +107,8 @@ impl HandJob {
     pub fn dump(&mut self, piece: KeyRange, now: u64, file: Done) -> Result<(), MapFault>
         requires { is_backwards piece ≡ false }
         ensures ok { OnOk result (fault_of self.old.map piece ≡ None) }
-        ensures err { IfErr result (λ fault. (fault ≡ MapFault.NoMemory) ⊎ (fault_of self.old.map piece ≡ Some fault)) }
+        ensures err { IfErr result (λ fault. (fault ≡ MapFault.NoMemory)
+            ⊎ (fault_of self.old.map piece ≡ Some fault)) }
         ensures dumped { OnOk result (self.new ≡ spec.dumped self.old piece now file) }
         ensures refused { OnErr result (self.new ≡ self.old) }
     {
@@ -134,9 +136,11 @@ impl HandJob {
 
     /// The manifest of the present snapshot, once its pieces tile the ranges.
     pub fn manifest(&self) -> Result<Manifest, MapFault>
-        ensures ok { IfOk result (λ manifest. (gap self.now.map ≡ None) × (manifest ≡ manifest_of self.now.map.noted)) }
+        ensures ok { IfOk result (λ manifest. (gap self.now.map ≡ None)
+            × (manifest ≡ manifest_of self.now.map.noted)) }
         ensures fits { IfOk result (λ manifest. manifest.bytes ≤ most_bytes) }
-        ensures err { IfErr result (λ fault. (fault ≡ MapFault.NoMemory) ⊎ (option_map (λ key. MapFault.Untiled key) (gap self.now.map) ≡ Some fault)) }
+        ensures err { IfErr result (λ fault. (fault ≡ MapFault.NoMemory)
+            ⊎ (option_map (λ key. MapFault.Untiled key) (gap self.now.map) ≡ Some fault)) }
     {
         self.map.manifest()
     }

@@ -4,7 +4,7 @@
 mod hand;
 mod laws;
 
-pub use hand::HandJob;
+pub use hand::BackupJob;
 pub use laws::{honest_manifest_law, noting_law, tiling_law, undo_law};
 
 #[cfg(test)]

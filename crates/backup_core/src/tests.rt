@@ -21,7 +21,7 @@ fn ranges(alloc: Global) -> Result<Ranges, RangeFault> {
 /// Whether the piece may be dumped, and is.
 fn dump(
     alloc: Global,
-    job: &mut HandJob,
+    job: &mut BackupJob,
     piece: (&[u8], &[u8]),
     file: (&str, u64),
 ) -> Result<bool, AllocError> {
@@ -39,8 +39,8 @@ fn dump(
 }
 
 /// A job from version 10 on, with the keys from `a` to `m` dumped at version 20.
-fn begun(alloc: Global, ranges: &Ranges) -> Result<HandJob, AllocError> {
-    let mut job = HandJob::new(alloc, ranges, 10)?;
+fn begun(alloc: Global, ranges: &Ranges) -> Result<BackupJob, AllocError> {
+    let mut job = BackupJob::new(alloc, ranges, 10)?;
     dump(alloc, &mut job, (b"a", b"m"), ("one", 20))?;
     Ok(job)
 }
@@ -48,7 +48,7 @@ fn begun(alloc: Global, ranges: &Ranges) -> Result<HandJob, AllocError> {
 #[test]
 fn the_first_dump_numbers_the_snapshot(rt: HostRuntime) -> Result<(), Fail> {
     let ranges = ranges(rt.alloc())?;
-    let fresh = HandJob::new(rt.alloc(), &ranges, 10)?;
+    let fresh = BackupJob::new(rt.alloc(), &ranges, 10)?;
     assert_eq!(rt;
         (fresh.begin(), fresh.next(), fresh.snapshot_at(20)),
         (10, 10, 20)
@@ -103,5 +103,5 @@ fn crosses<T: Send + Sync>() {}
 /// Threads may hand it on and share it.
 #[test]
 fn the_job_crosses_threads() {
-    crosses::<HandJob>();
+    crosses::<BackupJob>();
 }

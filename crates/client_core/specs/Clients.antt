@@ -42,7 +42,8 @@ begun_client time client = begun_at time client client.begun (next_ops client)
 abbrev pub who_of : ClientState → Who
 who_of client = who.Client client.script.number (client.place + 1)
 
--- what a commit gives: the try's outcome, the client after it, and its database's history and the newest version
+-- what a commit gives: the try's outcome, the client after it, and its database's history and the
+-- newest version
 pub record Try : Type 0 where
   pub outcome : Outcome
   pub client : ClientState
@@ -51,7 +52,13 @@ pub record Try : Type 0 where
 
 -- the client after a try that is its transaction's last
 abbrev pub after_try : ClientState → Outcome → ClientState
-after_try client outcome = record { script = client.script; place = client.place + 1; begun = None; outcomes = client.outcomes ++ outcome ∷ [] }
+after_try client outcome =
+    record {
+      script = client.script;
+      place = client.place + 1;
+      begun = None;
+      outcomes = client.outcomes ++ outcome ∷ [];
+    }
 
 abbrev pub try_with : ℕ → List Entry → ClientState → List TxOp → Outcome → Try
 try_with time history client ops outcome = record {
@@ -61,10 +68,20 @@ try_with time history client ops outcome = record {
   time = time_after (version_of outcome.end) time;
 }
 
--- the try to commit these operations, by the block, the newest version, the pace and the logs of jobs
+-- the try to commit these operations, by the block, the newest version, the pace and the logs of
+-- jobs
 abbrev pub try_of : ℕ → ℕ → ℕ → List JobLog → List Entry → ClientState → ℕ → List TxOp → Try
-try_of block time pace logs history client read ops = try_with time history client ops (record { place = client.place + 1; attempt = 1; read = read; end = end_of (commit_answer block time pace logs ops) })
+try_of block time pace logs history client read ops =
+    try_with time history client ops
+    (record {
+      place = client.place + 1;
+      attempt = 1;
+      read = read;
+      end = end_of (commit_answer block time pace logs ops);
+    })
 
 -- a try of the transaction that is begun, if one is
 abbrev pub commit_try : ℕ → ℕ → ℕ → List JobLog → List Entry → ClientState → Option Try
-commit_try block time pace logs history client = client.begun >>= λ read. next_ops client >>= λ ops. Some (try_of block time pace logs history client read ops)
+commit_try block time pace logs history client =
+    client.begun >>= λ read. next_ops client
+    >>= λ ops. Some (try_of block time pace logs history client read ops)

@@ -99,14 +99,17 @@ impl Client {
         versions: &mut Versions,
     ) -> Result<Option<Outcome>, AllocError>
         requires pace { 1 ≤ versions.old.pace }
-        requires past { AllByRecursion (λ (entry : Entry). entry.version ≤ versions.old.now) db.old.history }
+        requires past { AllByRecursion (λ (entry : Entry). entry.version ≤ versions.old.now)
+            db.old.history }
         ensures ok { IfOk result (λ outcome. MatchOption outcome
             ((commit_try db.old.block versions.old.now versions.old.pace db.old.logs db.old.history self.old ≡ None)
             × (self.new ≡ self.old) × (db.new ≡ db.old) × (versions.new ≡ versions.old))
             (λ outcome. commit_try db.old.block versions.old.now versions.old.pace db.old.logs db.old.history self.old
             ≡ Some (record { outcome = outcome; client = self.new; history = db.new.history; time = versions.new.now }))) }
-        ensures same { IfOk result (λ _. (db.new.block ≡ db.old.block) × (db.new.logs ≡ db.old.logs) × (versions.new.pace ≡ versions.old.pace)) }
-        ensures err { OnErr result ((self.new ≡ self.old) × (db.new ≡ db.old) × (versions.new ≡ versions.old)) }
+        ensures same { IfOk result (λ _. (db.new.block ≡ db.old.block) × (db.new.logs ≡ db.old.logs)
+            × (versions.new.pace ≡ versions.old.pace)) }
+        ensures err { OnErr result ((self.new ≡ self.old) × (db.new ≡ db.old)
+            × (versions.new ≡ versions.old)) }
     {
         let Some(read) = self.begun else {
             return Ok(None);
@@ -139,7 +142,10 @@ impl Client {
 
 // How a try will end, while nothing has changed yet.
 fn end_of_try(db: &Db, versions: &Versions, tx: &Tx) -> Result<End, AllocError>
-    ensures { IfOk result (λ end. end ≡ end_of (commit_answer db.now.block versions.entry.now.now versions.entry.now.pace db.now.logs tx.now.ops.now)) }
+    ensures { IfOk result
+        (λ end. end ≡ end_of
+        (commit_answer db.now.block versions.entry.now.now versions.entry.now.pace db.now.logs
+        tx.now.ops.now)) }
 {
     match db.check(versions, tx) {
         Ok(Committed { version: None }) => Ok(End::ReadOnly),
@@ -156,10 +162,19 @@ fn end_of_try(db: &Db, versions: &Versions, tx: &Tx) -> Result<End, AllocError>
 // Makes the entry of a try, where it is to have one.
 fn make_entry(db: &mut Db, versions: &mut Versions, tx: &Tx, end: End) -> Result<(), AllocError>
     requires pace { 1 ≤ versions.old.pace }
-    requires past { AllByRecursion (λ (entry : Entry). entry.version ≤ versions.old.now) db.old.history }
-    requires end { end ≡ end_of (commit_answer db.old.block versions.old.now versions.old.pace db.old.logs tx.now.ops.now) }
-    ensures entry { OnOk result (db.new ≡ record db.old { history = history_after (version_of end) tx.now.who (writes_of tx.now.ops.now) db.old.history }) }
-    ensures time { OnOk result (versions.new ≡ record versions.old { now = time_after (version_of end) versions.old.now }) }
+    requires past { AllByRecursion (λ (entry : Entry). entry.version ≤ versions.old.now)
+        db.old.history }
+    requires end { end
+        ≡ end_of (commit_answer db.old.block versions.old.now versions.old.pace db.old.logs
+        tx.now.ops.now) }
+    ensures entry { OnOk result
+        (db.new ≡ record db.old {
+          history = history_after (version_of end) tx.now.who
+              (writes_of tx.now.ops.now) db.old.history;
+        }) }
+    ensures time { OnOk result
+        (versions.new
+        ≡ record versions.old { now = time_after (version_of end) versions.old.now }) }
     ensures err { OnErr result ((db.new ≡ db.old) × (versions.new ≡ versions.old)) }
 {
     match end {

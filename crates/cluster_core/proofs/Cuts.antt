@@ -23,7 +23,7 @@ use Rattle.workload_text.specs.declared.Workload.{Workload}
 use Rattle.database.specs.declared.JobLog.{JobLog}
 use Rattle.database.specs.Logs.{log_of}
 use Rattle.database.specs.Commits.{most_version}
-use Rattle.backup_core.specs.Hand.{HandJob, text_of}
+use Rattle.backup_core.specs.Hand.{BackupJob, text_of}
 use Rattle.cluster_core.specs.declared.change.Change.TheVariants as changes
 use Rattle.cluster_core.specs.Plans.{files}
 use Rattle.cluster_core.specs.declared.plan.Filing.{Filing}
@@ -171,10 +171,10 @@ untiled : (o : Option Bytes) (fault : MapFault) (key : Bytes) → fault ≡ faul
 untiled None fault key f e = elim e [ inl n ↦ absurd (let q = sym f ∙ n in cc) | inr n ↦ cc ]
 untiled (Some k) fault key f e = elim e [ inl n ↦ absurd (let q = sym f ∙ n in cc) | inr n ↦ let q : Some (faults.Untiled k) ≡ Some (faults.Untiled key) = n ∙ ap (λ (x : MapFault). Some x) f in (let r : k ≡ key = cc in ap (λ (x : Bytes). Some x) r) ]
 
-pub seal_refused : (w : State) (place : ℕ) (found job : Job) (hand : HandJob) (fault : MapFault) (key : Bytes) → found ≡ slice_index_or w.jobs place found → hand ≡ found.hand → (fault ≡ faults.NoMemory) ⊎ (option_map (λ (k : Bytes). faults.Untiled k) (gap hand.map) ≡ Some fault) → fault ≡ faults.Untiled key → slice_get w.jobs place ≡ Some job → (luck : Luck) → seal_job w luck (record { place = place; job = job }) ≡ refuses (Untiled key) w
+pub seal_refused : (w : State) (place : ℕ) (found job : Job) (hand : BackupJob) (fault : MapFault) (key : Bytes) → found ≡ slice_index_or w.jobs place found → hand ≡ found.hand → (fault ≡ faults.NoMemory) ⊎ (option_map (λ (k : Bytes). faults.Untiled k) (gap hand.map) ≡ Some fault) → fault ≡ faults.Untiled key → slice_get w.jobs place ≡ Some job → (luck : Luck) → seal_job w luck (record { place = place; job = job }) ≡ refuses (Untiled key) w
 seal_refused w place found job hand fault key e h r f at luck =
     ap (seal_tested w (record { place = place; job = job }) luck)
-    (ap (λ (x : Job). gap x.hand.map) (sym (same_job w.jobs place job found at e)) ∙ ap (λ (x : HandJob). gap x.map) (sym h) ∙ untiled (gap hand.map) fault key f r)
+    (ap (λ (x : Job). gap x.hand.map) (sym (same_job w.jobs place job found at e)) ∙ ap (λ (x : BackupJob). gap x.map) (sym h) ∙ untiled (gap hand.map) fault key f r)
 
 abbrev pub seal_filing : State → ℕ → Job → Filing
 seal_filing w place job = record { place = place; change = changes.Seal; whole = whole_name job.container (seal_name w job); bytes = manifest_text (manifest_of job.hand.map.noted) }

@@ -1,7 +1,7 @@
 -- A change in parts is the whole change, and one that is taken back leaves the jobs as they were.
 use Rattle.std.proofs.Common.{◌≡◌, ℕ, zero, suc, List, [], ◌∷◌, Some, slice_set, refl, sym, ap, ◌∙◌}
 use Rattle.std.specs.Prelude.{slice_get}
-use Rattle.backup_core.specs.Hand.{HandJob}
+use Rattle.backup_core.specs.Hand.{BackupJob}
 use Rattle.backup_core.proofs.Noting.{undo_law}
 use Rattle.cluster_core.specs.declared.change.Change.{Change}
 use Rattle.cluster_core.specs.declared.change.Change.TheVariants.{Dump, Cut, Seal}
@@ -14,7 +14,7 @@ whole (Cut now) job = refl
 whole Seal job = refl
 
 undone : (change : Change) (job : Job) → taken_back change job.hand.snapshot (ahead change job) ≡ job
-undone (Dump piece now file) job = ap (λ (h : HandJob). record job { hand = h }) (undo_law job.hand piece now file)
+undone (Dump piece now file) job = ap (λ (h : BackupJob). record job { hand = h }) (undo_law job.hand piece now file)
 undone (Cut now) job = refl
 undone Seal job = refl
 

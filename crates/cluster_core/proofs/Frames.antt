@@ -11,7 +11,7 @@ use Rattle.container_view.specs.Files.{whole_name}
 use Rattle.container_view.specs.Honest.{IsHonestFile, listed_by}
 use Rattle.workload_text.specs.declared.Workload.{Workload}
 use Rattle.database.specs.Commits.{most_version}
-use Rattle.backup_core.specs.Hand.{HandJob}
+use Rattle.backup_core.specs.Hand.{BackupJob}
 use Rattle.cluster_core.specs.Jobs.{Job}
 use Rattle.cluster_core.specs.State.{State, history_on, with_job, with_put}
 use Rattle.cluster_core.specs.Commands.{gone_on}
@@ -128,7 +128,7 @@ apart_set jobs place old new at c h a b first second e f =
     (λ m x d g s. each_set (λ n y. is_same x.container y.container ≡ true → m ≡ n) jobs place old new at (λ t. h m place x old g at (ap (λ (z : Bytes). is_same x.container z) (sym c) ∙ t)) (λ n y d' g' t. h m n x y g g' t) b second f s)
     a first e
 
-pub sound_changed : (p : Workload) (w : State) (place : ℕ) (old : Job) (hand : HandJob) → Sound p w → slice_get w.jobs place ≡ Some old → IsJobSound p.settings.block w.time w.tickets (history_on old.side w) (record old { hand = hand }) → ((files : List File) → w.files ≡ Some files → IsStored p.settings.block w.time w.tickets (history_on old.side w) files (record old { hand = hand })) → Sound p (with_job place (record old { hand = hand }) w)
+pub sound_changed : (p : Workload) (w : State) (place : ℕ) (old : Job) (hand : BackupJob) → Sound p w → slice_get w.jobs place ≡ Some old → IsJobSound p.settings.block w.time w.tickets (history_on old.side w) (record old { hand = hand }) → ((files : List File) → w.files ≡ Some files → IsStored p.settings.block w.time w.tickets (history_on old.side w) files (record old { hand = hand })) → Sound p (with_job place (record old { hand = hand }) w)
 sound_changed p w place old hand h at j s = record {
   bound = h.bound;
   histories = h.histories;

@@ -23,7 +23,7 @@ use Rattle.workload_text.specs.declared.Workload.{Workload}
 use Rattle.workload_text.specs.Commands.{IsPiece}
 use Rattle.database.specs.Commits.{most_version}
 use Rattle.database.specs.Dumps.{pairs_at}
-use Rattle.backup_core.specs.Hand.{HandJob, begun_at, range_name, log_name, manifest_name, snapshot_at}
+use Rattle.backup_core.specs.Hand.{BackupJob, begun_at, range_name, log_name, manifest_name, snapshot_at}
 use Rattle.cluster_core.specs.declared.event.StepFault.TheVariants.{NoMemory}
 use Rattle.cluster_core.specs.declared.refusal.Refusal.TheVariants.{NothingNew}
 use Rattle.cluster_core.specs.Jobs.{Job, Found}
@@ -45,13 +45,13 @@ use Rattle.cluster_core.proofs.Frames.{sound_gone, sound_drawn, IsGood, sound_fi
 -- ---- a put
 
 -- what the command's put owes: its file is good, and once it is there and its ticket is used up, so is the job after it
-record IsOrder (p : Workload) (w : State) (place : ℕ) (job : Job) (hand : HandJob) (name bytes : Bytes) : Type 0 where
+record IsOrder (p : Workload) (w : State) (place : ℕ) (job : Job) (hand : BackupJob) (name bytes : Bytes) : Type 0 where
   fresh : IsFresh w.tickets name
   good : (files : List File) → w.files ≡ Some files → IsGood p w job name bytes files
   after : IsJobSound p.settings.block w.time (w.tickets + 1) (history_on job.side w) (record job { hand = hand })
   stored : (files : List File) → file_of files (whole_name job.container name) ≡ Some bytes → IsStored p.settings.block w.time (w.tickets + 1) (history_on job.side w) files job → IsStored p.settings.block w.time (w.tickets + 1) (history_on job.side w) files (record job { hand = hand })
 
-puts_keeps : (k : Known) (p : Workload) (w : State) (place : ℕ) (job : Job) (hand : HandJob) (name bytes : Bytes) (luck : Luck) → Sound p w → slice_get w.jobs place ≡ Some job → w.tickets ≤ most_version → IsOrder p w place job hand name bytes → Sound p (puts w (whole_name job.container name) bytes (with_job place (record job { hand = hand }) w) luck).state
+puts_keeps : (k : Known) (p : Workload) (w : State) (place : ℕ) (job : Job) (hand : BackupJob) (name bytes : Bytes) (luck : Luck) → Sound p w → slice_get w.jobs place ≡ Some job → w.tickets ≤ most_version → IsOrder p w place job hand name bytes → Sound p (puts w (whole_name job.container name) bytes (with_job place (record job { hand = hand }) w) luck).state
 puts_keeps k p w place job hand name bytes (Fine said) h at t o =
     let filed = sound_filed k p w place job name bytes h at o.fresh o.good in
     let drawn = sound_drawn k p (record w { files = with_put (whole_name job.container name) bytes w.files }) t filed in
@@ -62,7 +62,7 @@ puts_keeps k p w place job hand name bytes FailsOld h at t o = h
 puts_keeps k p w place job hand name bytes FailsNew h at t o = sound_filed k p w place job name bytes h at o.fresh o.good
 puts_keeps k p w place job hand name bytes Starved h at t o = h
 
-putting_keeps : (k : Known) (p : Workload) (w : State) (place : ℕ) (job : Job) (hand : HandJob) (name bytes : Bytes) (luck : Luck) → Sound p w → slice_get w.jobs place ≡ Some job → (w.tickets ≤ most_version → IsOrder p w place job hand name bytes) → Sound p (putting w (whole_name job.container name) bytes (with_job place (record job { hand = hand }) w) luck).state
+putting_keeps : (k : Known) (p : Workload) (w : State) (place : ℕ) (job : Job) (hand : BackupJob) (name bytes : Bytes) (luck : Luck) → Sound p w → slice_get w.jobs place ≡ Some job → (w.tickets ≤ most_version → IsOrder p w place job hand name bytes) → Sound p (putting w (whole_name job.container name) bytes (with_job place (record job { hand = hand }) w) luck).state
 putting_keeps k p w place job hand name bytes luck h at o = go (nat_lt most_version w.tickets) refl
   where
     go : (b : Bool) → nat_lt most_version w.tickets ≡ b → Sound p (cond b (moved (Err NoMemory) w) (puts w (whole_name job.container name) bytes (with_job place (record job { hand = hand }) w) luck)).state

@@ -18,7 +18,7 @@ use Rattle.database.specs.Dumps.{pairs_at}
 use Rattle.container_view.specs.Files.{whole_name}
 use Rattle.snapshot_plan.specs.Noted.{pieces_of, unless_inside, fault_of}
 use Rattle.snapshot_plan.specs.Pieces.{outside, overlap}
-use Rattle.backup_core.specs.Hand.{HandJob, range_name, text_of}
+use Rattle.backup_core.specs.Hand.{BackupJob, range_name, text_of}
 use Rattle.cluster_core.specs.declared.change.Change.{Change}
 use Rattle.cluster_core.specs.declared.change.Change.TheVariants as changes
 use Rattle.cluster_core.specs.Filed.{dump_change}
@@ -69,8 +69,8 @@ found_is tag sliced items jobs place job e s i g =
     ap (λ (j : Job). Some (record { place = place; job = j })) same ∙ sym n.2 ∙ ap (newest tag) (s ∙ i)
 
 -- the newest job with the tag that hasn't ended
-pub running_at : (tag : Bytes) (w : State) (place : ℕ) (job : Job) (hand : HandJob) (aborted : Bool) → Some (record { place = place; job = job }) ≡ newest tag w.jobs → hand ≡ job.hand → aborted ≡ hand.aborted → aborted ≡ false → IsRunning w tag (At place)
-running_at tag w place job hand aborted e h a f = (job, newest_at tag w.jobs (record { place = place; job = job }) (sym e), sym (a ∙ ap (λ (x : HandJob). x.aborted) h) ∙ f, sym e)
+pub running_at : (tag : Bytes) (w : State) (place : ℕ) (job : Job) (hand : BackupJob) (aborted : Bool) → Some (record { place = place; job = job }) ≡ newest tag w.jobs → hand ≡ job.hand → aborted ≡ hand.aborted → aborted ≡ false → IsRunning w tag (At place)
+running_at tag w place job hand aborted e h a f = (job, newest_at tag w.jobs (record { place = place; job = job }) (sym e), sym (a ∙ ap (λ (x : BackupJob). x.aborted) h) ∙ f, sym e)
 
 -- ---- a dump
 
@@ -90,18 +90,18 @@ piece_written p w seen side piece block history begin end pairs h e f i b t q x 
     (piece_writable p w side piece h (subst (λ (n : ℕ). IsPiece (key_limit_of n) piece) (sym size) i))))
 
 -- the snapshot of a job that is there doesn't begin past the newest version
-pub dump_begun : (p : Workload) (w : State) (seen : Seen) (place : ℕ) (job : Job) (hand : HandJob) → Sound p w → w ≡ seen.state → slice_get seen.state.jobs place ≡ Some job → hand ≡ job.hand → hand.snapshot ≤ seen.state.time
+pub dump_begun : (p : Workload) (w : State) (seen : Seen) (place : ℕ) (job : Job) (hand : BackupJob) → Sound p w → w ≡ seen.state → slice_get seen.state.jobs place ≡ Some job → hand ≡ job.hand → hand.snapshot ≤ seen.state.time
 dump_begun p w seen place job hand h e at i =
-    subst (λ (x : HandJob). x.snapshot ≤ seen.state.time) (sym i)
+    subst (λ (x : BackupJob). x.snapshot ≤ seen.state.time) (sym i)
     (subst (λ (v : State). slice_get v.jobs place ≡ Some job → job.hand.snapshot ≤ v.time) e (λ a. (h.jobs place job a).snapshot) at)
 
 -- the file of a job that changes by it
 abbrev pub filing_of : ℕ → Job → Change → Bytes → Bytes → Filing
 filing_of place job change name bytes = record { place = place; change = change; whole = whole_name job.container name; bytes = bytes }
 
-pub dump_filed : (seen : Seen) (result : Result Filing AllocError) (place : ℕ) (job : Job) (piece kept : KeyRange) (first : HandJob) (name copied bytes : Bytes) (side : Side) (now size : ℕ) → IfOk result (λ filing. filing ≡ filing_of place job (changes.Dump kept now (record { name = copied; version = now; bytes = size })) name bytes) → first ≡ job.hand → name ≡ text_of (range_name first seen.state.time seen.state.tickets seen.workload.settings.block) → copied ≡ name → side ≡ job.side → bytes ≡ piece_bytes seen.workload.settings seen.state side piece → now ≡ seen.state.time → size ≡ length bytes → kept ≡ piece → IfOk result (λ filing. filing ≡ filing_of place job (dump_change seen.workload.settings seen.state job piece) (dump_name seen.workload.settings seen.state job) (dump_bytes seen.workload.settings seen.state job piece))
+pub dump_filed : (seen : Seen) (result : Result Filing AllocError) (place : ℕ) (job : Job) (piece kept : KeyRange) (first : BackupJob) (name copied bytes : Bytes) (side : Side) (now size : ℕ) → IfOk result (λ filing. filing ≡ filing_of place job (changes.Dump kept now (record { name = copied; version = now; bytes = size })) name bytes) → first ≡ job.hand → name ≡ text_of (range_name first seen.state.time seen.state.tickets seen.workload.settings.block) → copied ≡ name → side ≡ job.side → bytes ≡ piece_bytes seen.workload.settings seen.state side piece → now ≡ seen.state.time → size ≡ length bytes → kept ≡ piece → IfOk result (λ filing. filing ≡ filing_of place job (dump_change seen.workload.settings seen.state job piece) (dump_name seen.workload.settings seen.state job) (dump_bytes seen.workload.settings seen.state job piece))
 dump_filed seen result place job piece kept first name copied bytes side now size filed f n c d b t l k =
-    let named : name ≡ dump_name seen.workload.settings seen.state job = n ∙ ap (λ (x : HandJob). text_of (range_name x seen.state.time seen.state.tickets seen.workload.settings.block)) f in
+    let named : name ≡ dump_name seen.workload.settings seen.state job = n ∙ ap (λ (x : BackupJob). text_of (range_name x seen.state.time seen.state.tickets seen.workload.settings.block)) f in
     let written : bytes ≡ dump_bytes seen.workload.settings seen.state job piece = b ∙ ap (λ (x : Side). piece_bytes seen.workload.settings seen.state x piece) d in
     let after : changes.Dump kept now (record { name = copied; version = now; bytes = size }) ≡ dump_change seen.workload.settings seen.state job piece =
     ap (λ (x : KeyRange). changes.Dump x now (record { name = copied; version = now; bytes = size })) k
@@ -118,10 +118,10 @@ dump_untested s w found piece luck None (Some key) e = cc
 dump_untested s w found piece luck None None e = refl
 
 -- a piece that may be noted is put
-pub dump_planned : (s : Settings) (w : State) (place : ℕ) (here : Job) (hand : HandJob) (piece : KeyRange) (filing : Filing) → slice_get w.jobs place ≡ Some here → hand ≡ here.hand → fault_of hand.map piece ≡ None → filing ≡ filing_of place here (dump_change s w here piece) (dump_name s w here) (dump_bytes s w here piece) → (job : Job) → slice_get w.jobs place ≡ Some job → IsPlanAt s w (dump_piece s w piece) (record { place = place; job = job }) (Put filing)
+pub dump_planned : (s : Settings) (w : State) (place : ℕ) (here : Job) (hand : BackupJob) (piece : KeyRange) (filing : Filing) → slice_get w.jobs place ≡ Some here → hand ≡ here.hand → fault_of hand.map piece ≡ None → filing ≡ filing_of place here (dump_change s w here piece) (dump_name s w here) (dump_bytes s w here piece) → (job : Job) → slice_get w.jobs place ≡ Some job → IsPlanAt s w (dump_piece s w piece) (record { place = place; job = job }) (Put filing)
 dump_planned s w place here hand piece filing at h fits file job there =
     subst (λ (x : Job). IsPlanAt s w (dump_piece s w piece) (record { place = place; job = x }) (Put filing)) (some_is here job (sym at ∙ there))
-    (λ luck. dump_untested s w (record { place = place; job = here }) piece luck (outside here.hand.map.ranges piece) (overlap (pieces_of here.hand.map.noted) piece) (ap (λ (x : HandJob). fault_of x.map piece) (sym h) ∙ fits)
+    (λ luck. dump_untested s w (record { place = place; job = here }) piece luck (outside here.hand.map.ranges piece) (overlap (pieces_of here.hand.map.noted) piece) (ap (λ (x : BackupJob). fault_of x.map piece) (sym h) ∙ fits)
     ∙ sym (ap (files w (filing_of place here (dump_change s w here piece) (dump_name s w here) (dump_bytes s w here piece)) luck) at)
     ∙ ap (λ (x : Filing). planned s w luck (Put x)) (sym file))
 

@@ -1,5 +1,17 @@
 -- How a job changes by a file of it.
-use Rattle.std.specs.Prelude.{◌≡◌, ℕ, ◌+◌, ◌<◌, ◌^◌, false, List, length, Some, slice_get, slice_set}
+use Rattle.std.specs.Prelude.{
+  ◌≡◌,
+  ℕ,
+  ◌+◌,
+  ◌<◌,
+  ◌^◌,
+  false,
+  List,
+  length,
+  Some,
+  slice_get,
+  slice_set,
+}
 use Rattle.fb_bytes.specs.declared.KeyRange.{KeyRange}
 use Rattle.fb_bytes.specs.Keys.{is_backwards}
 use Rattle.backup_core.specs.Hand as hands
@@ -37,12 +49,14 @@ settled Seal job = record job { hand = sealed job.hand }
 
 -- what was made ahead is taken back, before which the snapshot had this number
 abbrev pub taken_back : Change → ℕ → Job → Job
-taken_back (Dump piece now file) snapshot job = record job { hand = hands.taken_back job.hand piece.begin snapshot }
+taken_back (Dump piece now file) snapshot job =
+    record job { hand = hands.taken_back job.hand piece.begin snapshot }
 taken_back (Cut now) snapshot job = job
 taken_back Seal snapshot job = job
 
 -- The job at a place is ahead by a change, and its snapshot had this number before.
-pub record IsAhead (old : List Job) (place : ℕ) (change : Change) (snapshot : ℕ) (new : List Job) : Type 0 where
+pub record IsAhead (old : List Job) (place : ℕ) (change : Change) (snapshot : ℕ)
+    (new : List Job) : Type 0 where
   pub job : Job
   pub at : slice_get old place ≡ Some job
   pub before : snapshot ≡ job.hand.snapshot
@@ -52,4 +66,8 @@ pub record IsAhead (old : List Job) (place : ℕ) (change : Change) (snapshot : 
 abbrev pub dump_change : Settings → State → Job → KeyRange → Change
 dump_change s w job piece =
     Dump piece w.time
-    (record { name = dump_name s w job; version = w.time; bytes = length (dump_bytes s w job piece) })
+    (record {
+      name = dump_name s w job;
+      version = w.time;
+      bytes = length (dump_bytes s w job piece);
+    })

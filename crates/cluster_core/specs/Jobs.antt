@@ -7,7 +7,7 @@ use Rattle.mutations.specs.Transactions.{◌or_else◌}
 use Rattle.workload_text.specs.declared.Side.{Side}
 use Rattle.workload_text.specs.declared.Side.TheVariants.{Src, Dst}
 use Rattle.database.specs.declared.JobLog.{JobLog}
-use Rattle.backup_core.specs.Hand.{HandJob}
+use Rattle.backup_core.specs.Hand.{BackupJob}
 use Rattle.cluster_core.specs.declared.job_state.JobState.{JobState}
 use Rattle.cluster_core.specs.declared.job_state.JobState.TheVariants.{Running, Aborted}
 
@@ -17,7 +17,7 @@ pub record Job : Type 0 where
   pub tag : Bytes
   pub side : Side
   pub container : Bytes
-  pub hand : HandJob
+  pub hand : BackupJob
 
 -- a job and its place among the jobs, from 0
 pub record Found : Type 0 where

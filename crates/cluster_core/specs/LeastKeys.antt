@@ -12,9 +12,11 @@ use Rattle.cluster_core.specs.Moves.{Luck, Moved}
 use Rattle.cluster_core.specs.Commands.{refuses, dump_put, seal_put, command_gives}
 use Rattle.cluster_core.specs.Sound.{Sound}
 
--- A dump is refused for the least key of its piece outside the job's ranges, else for the least that is held.
+-- A dump is refused for the least key of its piece outside the job's ranges, else for the least
+-- that is held.
 pub record DumpsBy (found : Found) (piece : KeyRange) (w : State) (gives put : Moved) : Type 0 where
-  pub outside : (key : Bytes) → IsOutside found.job.hand.map piece key → gives ≡ refuses (OutsideRanges key) w
+  pub outside : (key : Bytes) → IsOutside found.job.hand.map piece key
+      → gives ≡ refuses (OutsideRanges key) w
   pub held : (key : Bytes) → IsInside found.job.hand.map piece → IsHeld found.job.hand.map piece key
       → gives ≡ refuses (Overlap key) w
   pub free : IsInside found.job.hand.map piece → IsApart found.job.hand.map piece → gives ≡ put
@@ -24,9 +26,13 @@ pub record SealsBy (found : Found) (w : State) (gives put : Moved) : Type 0 wher
   pub untiled : (key : Bytes) → IsUntiled found.job.hand.map key → gives ≡ refuses (Untiled key) w
   pub tiled : IsTiled found.job.hand.map → gives ≡ put
 
--- In a sound state the newest job with a tag, where it hasn't ended, dumps and seals by the least keys alone.
+-- In a sound state the newest job with a tag, where it hasn't ended, dumps and seals by the least
+-- keys alone.
 abbrev pub LeastKeyLaw : Type 0
-LeastKeyLaw = (p : Workload) (w : State) (luck : Luck) (tag : Bytes) (piece : KeyRange) (found : Found) → Sound p w
+LeastKeyLaw =
+    (p : Workload) (w : State) (luck : Luck) (tag : Bytes) (piece : KeyRange) (found : Found)
+    → Sound p w
     → newest tag w.jobs ≡ Some found → found.job.hand.aborted ≡ false
-    → DumpsBy found piece w (command_gives p.settings w luck (Dump tag piece)) (dump_put p.settings w found piece luck)
+    → DumpsBy found piece w (command_gives p.settings w luck (Dump tag piece))
+    (dump_put p.settings w found piece luck)
     × SealsBy found w (command_gives p.settings w luck (Seal tag)) (seal_put w found luck)

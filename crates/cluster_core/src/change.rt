@@ -35,7 +35,8 @@ pub(crate) fn go_ahead(
 ) -> Result<u64, AllocError>
     requires at { (job : spec.Job) × (slice_get jobs.old.items place ≡ Some job) }
     requires can { CanChange change.now }
-    ensures ok { IfOk result (λ snapshot. IsAhead jobs.old.items place change.now snapshot jobs.new.items) }
+    ensures ok { IfOk result
+        (λ snapshot. IsAhead jobs.old.items place change.now snapshot jobs.new.items) }
     ensures err { OnErr result (jobs.new.items ≡ jobs.old.items) }
 {
     jobs[place].go_ahead(change)
@@ -45,7 +46,8 @@ pub(crate) fn go_ahead(
 pub(crate) fn settle(jobs: &mut Vec<Job>, place: usize, change: &Change)
     requires at { (job : spec.Job) × (slice_get jobs.old.items place ≡ Some job) }
     requires can { CanChange change.now }
-    ensures { (job : spec.Job) → slice_get jobs.old.items place ≡ Some job → jobs.new.items ≡ slice_set jobs.old.items place (settled change.now job) }
+    ensures { (job : spec.Job) → slice_get jobs.old.items place ≡ Some job
+        → jobs.new.items ≡ slice_set jobs.old.items place (settled change.now job) }
 {
     jobs[place].settle(change);
 }
@@ -53,7 +55,8 @@ pub(crate) fn settle(jobs: &mut Vec<Job>, place: usize, change: &Change)
 /// What was made ahead is taken back, since the file wasn't put. It takes no memory.
 pub(crate) fn take_back(jobs: &mut Vec<Job>, place: usize, change: &Change, snapshot: u64)
     requires at { (job : spec.Job) × (slice_get jobs.old.items place ≡ Some job) }
-    ensures { (job : spec.Job) → slice_get jobs.old.items place ≡ Some job → jobs.new.items ≡ slice_set jobs.old.items place (taken_back change.now snapshot job) }
+    ensures { (job : spec.Job) → slice_get jobs.old.items place ≡ Some job
+        → jobs.new.items ≡ slice_set jobs.old.items place (taken_back change.now snapshot job) }
 {
     jobs[place].take_back(change, snapshot);
 }

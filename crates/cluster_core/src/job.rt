@@ -7,7 +7,7 @@ ghost use Rattle.cluster_core.specs.Jobs as spec;
 
 use crate::JobState;
 use crate::change::Change;
-use backup_core::HandJob;
+use backup_core::BackupJob;
 use fb_bytes::{Ranges, Text, is_same};
 use std::alloc::AllocError;
 use std::marker::Model;
@@ -20,7 +20,7 @@ pub struct Job {
     tag: Text,
     side: Side,
     container: Text,
-    hand: HandJob,
+    hand: BackupJob,
 }
 
 impl Model for Job {
@@ -35,7 +35,7 @@ impl Model for Job {
 }
 
 impl Job {
-    pub(crate) fn new(tag: Text, side: Side, container: Text, hand: HandJob) -> Self
+    pub(crate) fn new(tag: Text, side: Side, container: Text, hand: BackupJob) -> Self
         ensures { result ≡ record { tag = tag; side = side; container = container; hand = hand } }
     {
         Job {
@@ -81,7 +81,7 @@ impl Job {
         }
     }
 
-    pub(crate) fn hand(&self) -> &HandJob
+    pub(crate) fn hand(&self) -> &BackupJob
         ensures { result.now ≡ self.now.hand }
     {
         &self.hand

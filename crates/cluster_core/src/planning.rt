@@ -22,7 +22,7 @@ use crate::change::Change;
 use crate::job::{newest, started_in};
 use crate::plan::{Filing, Plan, Running};
 use crate::{Job, JobState, Refusal, World};
-use backup_core::HandJob;
+use backup_core::BackupJob;
 use container_view::whole_name;
 use database::Db;
 use fb_bytes::{Blob, KeyRange, Ranges, Text};
@@ -50,7 +50,8 @@ impl<V: Vault> World<V> {
 
     fn plan_of(&self, command: &Command) -> Result<Plan, AllocError>
         requires { IsCommand self.now.workload.settings.block command.now }
-        ensures plan { IfOk result (IsPlanOf self.now.workload.settings self.now.state command.now) }
+        ensures plan { IfOk result
+            (IsPlanOf self.now.workload.settings self.now.state command.now) }
         ensures safe { IfOk result (IsSafe self.now.state) }
     {
         match command {
@@ -97,7 +98,8 @@ impl<V: Vault> World<V> {
 
     // The state of the newest job with the tag.
     fn state_of(&self, tag: &Text) -> Option<JobState>
-        ensures { result ≡ option_map (λ (found : jobs.Found). jobs.state_of_job found.job) (jobs.newest tag.now self.now.state.jobs) }
+        ensures { result ≡ option_map (λ (found : jobs.Found). jobs.state_of_job found.job)
+            (jobs.newest tag.now self.now.state.jobs) }
     {
         let (_, job) = self.found(tag)?;
         Some(job.state())
@@ -110,7 +112,9 @@ impl<V: Vault> World<V> {
         container: &Text,
         ranges: &Ranges,
     ) -> Result<Plan, AllocError>
-        ensures plan { IfOk result (λ plan. (luck : Luck) → commands.open_job self.now.workload.settings self.now.state tag.now side container.now ranges.now luck ≡ planned self.now.workload.settings self.now.state luck plan) }
+        ensures plan { IfOk result (λ plan. (luck : Luck)
+            → commands.open_job self.now.workload.settings self.now.state tag.now side container.now
+            ranges.now luck ≡ planned self.now.workload.settings self.now.state luck plan) }
         ensures safe { IfOk result (IsSafe self.now.state) }
     {
         if self.is_busy(tag) {
@@ -144,7 +148,8 @@ impl<V: Vault> World<V> {
 
     // The newest job with the tag, and its place.
     fn found(&self, tag: &Text) -> Option<(usize, &Job)>
-        ensures { option_map (λ found. record { place = found.0; job = found.1.now }) result ≡ jobs.newest tag.now self.now.state.jobs }
+        ensures { option_map (λ found. record { place = found.0; job = found.1.now }) result
+            ≡ jobs.newest tag.now self.now.state.jobs }
     {
         let place = newest(&self.jobs, tag)?;
         Some((place, &self.jobs[place]))
@@ -161,7 +166,10 @@ impl<V: Vault> World<V> {
     fn plan_dump(&self, place: usize, piece: &KeyRange) -> Result<Plan, AllocError>
         requires at { (job : jobs.Job) × (slice_get self.now.state.jobs place ≡ Some job) }
         requires piece { IsPiece (key_limit_of self.now.workload.settings.block) piece.now }
-        ensures plan { IfOk result (λ plan. (job : jobs.Job) → slice_get self.now.state.jobs place ≡ Some job → IsPlanAt self.now.workload.settings self.now.state (commands.dump_piece self.now.workload.settings self.now.state piece.now) (record { place = place; job = job }) plan) }
+        ensures plan { IfOk result (λ plan. (job : jobs.Job) → slice_get self.now.state.jobs place
+            ≡ Some job → IsPlanAt self.now.workload.settings self.now.state
+            (commands.dump_piece self.now.workload.settings self.now.state piece.now)
+            (record { place = place; job = job }) plan) }
         ensures safe { IfOk result (IsSafe self.now.state) }
     {
         let job = self.job_at(place);
@@ -182,7 +190,16 @@ impl<V: Vault> World<V> {
     fn dump(&self, place: usize, job: &Job, piece: &KeyRange) -> Result<Filing, AllocError>
         requires at { slice_get self.now.state.jobs place ≡ Some job.now }
         requires piece { IsPiece (key_limit_of self.now.workload.settings.block) piece.now }
-        ensures file { IfOk result (λ filing. filing ≡ record { place = place; change = filed.dump_change self.now.workload.settings self.now.state job.now piece.now; whole = files.whole_name job.now.container (commands.dump_name self.now.workload.settings self.now.state job.now); bytes = commands.dump_bytes self.now.workload.settings self.now.state job.now piece.now }) }
+        ensures file { IfOk result
+            (λ filing. filing
+            ≡ record {
+              place = place;
+              change = filed.dump_change self.now.workload.settings self.now.state job.now piece.now;
+              whole = files.whole_name job.now.container
+                  (commands.dump_name self.now.workload.settings self.now.state job.now);
+              bytes =
+                  commands.dump_bytes self.now.workload.settings self.now.state job.now piece.now;
+            }) }
         ensures drawn { IfOk result (λ _. self.now.state.tickets ≤ most_version) }
     {
         let _sound = &self.workload;
@@ -202,9 +219,12 @@ impl<V: Vault> World<V> {
     }
 
     // The name of a range file of the newest version.
-    fn range_name(&self, hand: &HandJob) -> Result<Text, AllocError>
+    fn range_name(&self, hand: &BackupJob) -> Result<Text, AllocError>
         requires { hand.now.snapshot ≤ self.now.state.time }
-        ensures name { IfOk result (λ name. name ≡ text_of (range_name hand.now self.now.state.time self.now.state.tickets self.now.workload.settings.block)) }
+        ensures name { IfOk result
+            (λ name. name
+            ≡ text_of (range_name hand.now self.now.state.time self.now.state.tickets
+            self.now.workload.settings.block)) }
         ensures drawn { IfOk result (λ _. self.now.state.tickets ≤ most_version) }
     {
         if self.tickets > Versions::MOST {
@@ -225,7 +245,9 @@ impl<V: Vault> World<V> {
     // The bytes of the range file of a piece.
     fn range_bytes(&self, side: Side, piece: &KeyRange) -> Result<Blob, AllocError>
         requires { IsPiece (key_limit_of self.now.workload.settings.block) piece.now }
-        ensures { IfOk result (λ bytes. bytes ≡ commands.piece_bytes self.now.workload.settings self.now.state side piece.now) }
+        ensures { IfOk result
+            (λ bytes. bytes
+            ≡ commands.piece_bytes self.now.workload.settings self.now.state side piece.now) }
     {
         let pairs = self.db(side).dump(&self.versions, piece)?;
         let chunk = Chunk {
@@ -258,7 +280,14 @@ impl<V: Vault> World<V> {
         name: &Text,
         bytes: Blob,
     ) -> Result<Filing, AllocError>
-        ensures { IfOk result (λ filing. filing ≡ record { place = place; change = change; whole = files.whole_name job.now.container name.now; bytes = bytes }) }
+        ensures { IfOk result
+            (λ filing. filing
+            ≡ record {
+              place = place;
+              change = change;
+              whole = files.whole_name job.now.container name.now;
+              bytes = bytes;
+            }) }
     {
         let whole = whole_name(self.alloc, job.container(), name.as_str())?;
         Ok(Filing {
@@ -270,8 +299,12 @@ impl<V: Vault> World<V> {
     }
 
     fn plan_cut(&self, place: usize) -> Result<Plan, AllocError>
-        requires at { (job : jobs.Job) × (slice_get self.now.state.jobs place ≡ Some job) × (job.hand.aborted ≡ false) }
-        ensures plan { IfOk result (λ plan. (job : jobs.Job) → slice_get self.now.state.jobs place ≡ Some job → IsPlanAt self.now.workload.settings self.now.state (commands.cut_log self.now.workload.settings self.now.state) (record { place = place; job = job }) plan) }
+        requires at { (job : jobs.Job) × (slice_get self.now.state.jobs place ≡ Some job)
+            × (job.hand.aborted ≡ false) }
+        ensures plan { IfOk result (λ plan. (job : jobs.Job) → slice_get self.now.state.jobs place
+            ≡ Some job → IsPlanAt self.now.workload.settings self.now.state
+            (commands.cut_log self.now.workload.settings self.now.state)
+            (record { place = place; job = job }) plan) }
         ensures safe { IfOk result (IsSafe self.now.state) }
     {
         let job = &self.jobs[place];
@@ -288,7 +321,15 @@ impl<V: Vault> World<V> {
         requires at { slice_get self.now.state.jobs place ≡ Some job.now }
         requires running { job.now.hand.aborted ≡ false }
         requires some { job.now.hand.next ≤ self.now.state.time }
-        ensures file { IfOk result (λ filing. filing ≡ record { place = place; change = changes.Cut self.now.state.time; whole = files.whole_name job.now.container (commands.cut_name self.now.workload.settings self.now.state job.now); bytes = commands.cut_bytes self.now.workload.settings self.now.state job.now }) }
+        ensures file { IfOk result
+            (λ filing. filing ≡ record {
+              place = place;
+              change = changes.Cut self.now.state.time;
+              whole = files.whole_name job.now.container
+                  (commands.cut_name self.now.workload.settings self.now.state job.now);
+              bytes =
+                  commands.cut_bytes self.now.workload.settings self.now.state job.now;
+            }) }
         ensures drawn { IfOk result (λ _. self.now.state.tickets ≤ most_version) }
     {
         let name = self.log_name(job.hand())?;
@@ -300,9 +341,12 @@ impl<V: Vault> World<V> {
     }
 
     // The name of a log file that ends past the newest version.
-    fn log_name(&self, hand: &HandJob) -> Result<Text, AllocError>
+    fn log_name(&self, hand: &BackupJob) -> Result<Text, AllocError>
         requires { hand.now.next ≤ self.now.state.time }
-        ensures name { IfOk result (λ name. name ≡ text_of (log_name hand.now self.now.state.time self.now.state.tickets self.now.workload.settings.block)) }
+        ensures name { IfOk result
+            (λ name. name
+            ≡ text_of (log_name hand.now self.now.state.time self.now.state.tickets
+            self.now.workload.settings.block)) }
         ensures drawn { IfOk result (λ _. self.now.state.tickets ≤ most_version) }
     {
         if self.tickets > Versions::MOST {
@@ -324,7 +368,9 @@ impl<V: Vault> World<V> {
         requires at { slice_get self.now.state.jobs place ≡ Some job.now }
         requires running { job.now.hand.aborted ≡ false }
         requires some { job.now.hand.next ≤ self.now.state.time }
-        ensures { IfOk result (λ bytes. bytes ≡ commands.cut_bytes self.now.workload.settings self.now.state job.now) }
+        ensures { IfOk result
+            (λ bytes. bytes
+            ≡ commands.cut_bytes self.now.workload.settings self.now.state job.now) }
     {
         let end = self.versions.now + 1;
         let number = place as u64 + 1;
@@ -335,7 +381,9 @@ impl<V: Vault> World<V> {
 
     fn plan_seal(&self, place: usize) -> Result<Plan, AllocError>
         requires at { (job : jobs.Job) × (slice_get self.now.state.jobs place ≡ Some job) }
-        ensures plan { IfOk result (λ plan. (job : jobs.Job) → slice_get self.now.state.jobs place ≡ Some job → IsPlanAt self.now.workload.settings self.now.state (commands.seal_job self.now.state) (record { place = place; job = job }) plan) }
+        ensures plan { IfOk result (λ plan. (job : jobs.Job) → slice_get self.now.state.jobs place
+            ≡ Some job → IsPlanAt self.now.workload.settings self.now.state
+            (commands.seal_job self.now.state) (record { place = place; job = job }) plan) }
         ensures safe { IfOk result (IsSafe self.now.state) }
     {
         let job = &self.jobs[place];
@@ -355,7 +403,14 @@ impl<V: Vault> World<V> {
         requires tiled { gap job.now.hand.map ≡ None }
         requires manifest { manifest.now ≡ manifest_of job.now.hand.map.noted }
         requires fits { manifest.now.bytes ≤ most_bytes }
-        ensures file { IfOk result (λ filing. filing ≡ record { place = place; change = changes.Seal; whole = files.whole_name job.now.container (commands.seal_name self.now.state job.now); bytes = manifest_text (manifest_of job.now.hand.map.noted) }) }
+        ensures file { IfOk result
+            (λ filing. filing
+            ≡ record {
+              place = place;
+              change = changes.Seal;
+              whole = files.whole_name job.now.container (commands.seal_name self.now.state job.now);
+              bytes = manifest_text (manifest_of job.now.hand.map.noted);
+            }) }
         ensures drawn { IfOk result (λ _. self.now.state.tickets ≤ most_version) }
     {
         let bytes = manifests::write(self.alloc, manifest)?;
@@ -368,7 +423,8 @@ impl<V: Vault> World<V> {
         requires order { manifest.now.begin ≤ manifest.now.end }
         requires end { manifest.now.end ≤ most_version }
         requires bytes { manifest.now.bytes < 2 ^ 63 }
-        ensures name { IfOk result (λ name. name ≡ text_of (name_for manifest.now self.now.state.tickets)) }
+        ensures name { IfOk result
+            (λ name. name ≡ text_of (name_for manifest.now self.now.state.tickets)) }
         ensures drawn { IfOk result (λ _. self.now.state.tickets ≤ most_version) }
     {
         if self.tickets > Versions::MOST {

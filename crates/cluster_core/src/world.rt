@@ -17,7 +17,7 @@ use crate::clients::{begin_client, commit_client, new_clients};
 use crate::logging::{begin_log, end_log};
 use crate::plan::{Filing, Plan};
 use crate::{Answer, Event, Job, Jobs, Refusal, StepFault};
-use backup_core::HandJob;
+use backup_core::BackupJob;
 use block_frame::Profile;
 use client_core::{Client, Outcomes};
 use container_view::{ViewFault, list_names};
@@ -401,7 +401,7 @@ impl<V: Vault> World<V> {
             return Err(StepFault::VersionsSpent { version });
         };
         let count = self.jobs.len();
-        let hand = HandJob::new(self.alloc, ranges, version)?;
+        let hand = BackupJob::new(self.alloc, ranges, version)?;
         let job = Job::new(tag, side, container, hand);
         let Ok(()) = self.jobs.push(job) else {
             return Err(StepFault::NoMemory);

@@ -1,5 +1,31 @@
 -- How far logs go, and the least and the greatest version that a container advertises.
-use Rattle.std.specs.Prelude.{◌≡◌, ℕ, zero, suc, ◌-◌, ◌≤◌, ◌↔◌, max, min, Bool, true, false, ◌&&◌, ◌||◌, List, [], ◌∷◌, Option, Some, None, is_some, if◌then◌else◌, nat_lt, nat_le, ◌==◌}
+use Rattle.std.specs.Prelude.{
+  ◌≡◌,
+  ℕ,
+  zero,
+  suc,
+  ◌-◌,
+  ◌≤◌,
+  ◌↔◌,
+  max,
+  min,
+  Bool,
+  true,
+  false,
+  ◌&&◌,
+  ◌||◌,
+  List,
+  [],
+  ◌∷◌,
+  Option,
+  Some,
+  None,
+  is_some,
+  if◌then◌else◌,
+  nat_lt,
+  nat_le,
+  ◌==◌,
+}
 pub use Rattle.container_view.specs.declared.versions.Bounds.{Bounds}
 use Rattle.container_view.specs.Folder.{LogFile, ManifestFile, Folder}
 use Rattle.container_view.specs.Chain.{best_log, chain}
@@ -18,20 +44,25 @@ on_from next version (Some file) = next file
 -- where chains from the version end, after at most `most` links
 abbrev pub reached_in : ℕ → List LogFile → ℕ → ℕ
 reached_in zero logs version = version
-reached_in (suc most) logs version = on_from (λ file. reached_in most logs file.end) version (best_log logs version)
+reached_in (suc most) logs version =
+    on_from (λ file. reached_in most logs file.end) version (best_log logs version)
 
--- The end that is reached by following chains from the version. Each link has a version at least, and ends no later than the last log.
+-- The end that is reached by following chains from the version. Each link has a version at least,
+-- and ends no later than the last log.
 abbrev pub reached : List LogFile → ℕ → ℕ
 reached logs version = reached_in (last_end logs - version) logs version
 
 -- chains from a version exist exactly to the ends up to the one that is reached
 abbrev pub ReachLaw : Type 0
-ReachLaw = (folder : Folder) (begin end : ℕ) → (is_some (chain folder begin end) ≡ true) ↔ (end ≤ reached folder.logs begin)
+ReachLaw = (folder : Folder) (begin end : ℕ) → (is_some (chain folder begin end) ≡ true)
+    ↔ (end ≤ reached folder.logs begin)
 
--- the bounds of the versions that a manifest gives: they go from its end to the last version of the logs from its begin on, and its end is among them where it is of that version alone
+-- the bounds of the versions that a manifest gives: they go from its end to the last version of the
+-- logs from its begin on, and its end is among them where it is of that version alone
 abbrev pub given : Folder → ManifestFile → Option Bounds
 given folder m =
-    if nat_le folder.unreliable m.begin && (nat_lt m.end (reached folder.logs m.begin) || m.begin == m.end)
+    if nat_le folder.unreliable m.begin
+    && (nat_lt m.end (reached folder.logs m.begin) || m.begin == m.end)
     then Some (record { least = m.end; greatest = max m.end (reached folder.logs m.begin - 1) })
     else None
 
@@ -48,13 +79,15 @@ IsBetween (Some bounds) version = (bounds.least ≤ version) × (version ≤ bou
 
 -- a manifest gives each version between its bounds, and no other
 abbrev pub GivenLaw : Type 0
-GivenLaw = (folder : Folder) (m : ManifestFile) (version : ℕ) → (gives folder version m ≡ true) ↔ IsBetween (given folder m) version
+GivenLaw = (folder : Folder) (m : ManifestFile) (version : ℕ) → (gives folder version m ≡ true)
+    ↔ IsBetween (given folder m) version
 
 -- the bounds of both
 abbrev pub wider : Option Bounds → Option Bounds → Option Bounds
 wider None other = other
 wider (Some a) None = Some a
-wider (Some a) (Some b) = Some (record { least = min a.least b.least; greatest = max a.greatest b.greatest })
+wider (Some a) (Some b) =
+    Some (record { least = min a.least b.least; greatest = max a.greatest b.greatest })
 
 -- the bounds of all versions that some of these manifests give
 abbrev pub given_by : Folder → List ManifestFile → Option Bounds
@@ -68,7 +101,8 @@ advertised_bounds folder = given_by folder folder.manifests
 pub record AreLeastAndGreatest (folder : Folder) (bounds : Bounds) : Type 0 where
   pub least : is_advertised folder bounds.least ≡ true
   pub greatest : is_advertised folder bounds.greatest ≡ true
-  pub between : (version : ℕ) → is_advertised folder version ≡ true → (bounds.least ≤ version) × (version ≤ bounds.greatest)
+  pub between : (version : ℕ) → is_advertised folder version ≡ true → (bounds.least ≤ version)
+      × (version ≤ bounds.greatest)
 
 -- the least and the greatest advertised version; none where no version is advertised
 abbrev pub AreBounds : Folder → Option Bounds → Type 0

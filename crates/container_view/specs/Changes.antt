@@ -6,7 +6,14 @@ use Rattle.fb_bytes.specs.Options.{IsIn}
 use Rattle.mutations.specs.declared.Entry.{Entry}
 use Rattle.mutations.specs.Histories.{IsRising}
 use Rattle.container_view.specs.Folder.{RangeFile, LogFile, ManifestFile, Folder}
-use Rattle.container_view.specs.Law.{Source, IsHonestRange, IsHonestLog, IsHonestManifest, IsHonest, IsFaithful}
+use Rattle.container_view.specs.Law.{
+  Source,
+  IsHonestRange,
+  IsHonestLog,
+  IsHonestManifest,
+  IsHonest,
+  IsFaithful,
+}
 
 -- many has x at some place, and few doesn't have it there
 pub record Inserts {X : Type 0} (x : X) (few many : List X) : Type 0 where
@@ -27,26 +34,41 @@ pub record Grows (old new : Source) : Type 0 where
 
 -- no manifest of the folder lists the name
 abbrev pub IsListedNowhere : Folder → Bytes → Type 0
-IsListedNowhere folder name = (m : ManifestFile) (names : List Bytes) → IsIn m folder.manifests → m.content ≡ Some names → IsIn name names → ⊥
+IsListedNowhere folder name =
+    (m : ManifestFile) (names : List Bytes) → IsIn m folder.manifests → m.content ≡ Some names
+    → IsIn name names → ⊥
 
 -- one step on the files, while the source stands still
 pub data Changes (s : Source) (old new : Folder) : Type 0 where
   -- a range file under a name that no range file has
-  PutRange : (file : RangeFile) (ranges : List RangeFile) → IsHonestRange s file → AllByRecursion (λ f. is_same f.name file.name ≡ false) old.ranges → Inserts file old.ranges ranges → new ≡ record old { ranges = ranges } → Changes s old new
-  PutLog : (file : LogFile) (logs : List LogFile) → IsHonestLog s file → Inserts file old.logs logs → new ≡ record old { logs = logs } → Changes s old new
-  PutManifest : (file : ManifestFile) (manifests : List ManifestFile) → (old.unreliable ≤ file.begin → IsHonestManifest s old.ranges file) → Inserts file old.manifests manifests → new ≡ record old { manifests = manifests } → Changes s old new
+  PutRange : (file : RangeFile) (ranges : List RangeFile) → IsHonestRange s file
+      → AllByRecursion (λ f. is_same f.name file.name ≡ false) old.ranges
+      → Inserts file old.ranges ranges → new ≡ record old { ranges = ranges } → Changes s old new
+  PutLog : (file : LogFile) (logs : List LogFile) → IsHonestLog s file → Inserts file old.logs logs
+      → new ≡ record old { logs = logs } → Changes s old new
+  PutManifest : (file : ManifestFile) (manifests : List ManifestFile)
+      → (old.unreliable ≤ file.begin → IsHonestManifest s old.ranges file)
+      → Inserts file old.manifests manifests → new ≡ record old { manifests = manifests }
+      → Changes s old new
   -- the unreliable end never falls
-  Raise : (end : ℕ) → old.unreliable ≤ end → new ≡ record old { unreliable = end } → Changes s old new
+  Raise : (end : ℕ) → old.unreliable ≤ end → new ≡ record old { unreliable = end }
+      → Changes s old new
   -- a range file below the unreliable end
-  DropRange : (file : RangeFile) (ranges : List RangeFile) → file.version < old.unreliable → Inserts file ranges old.ranges → new ≡ record old { ranges = ranges } → Changes s old new
+  DropRange : (file : RangeFile) (ranges : List RangeFile) → file.version < old.unreliable
+      → Inserts file ranges old.ranges → new ≡ record old { ranges = ranges } → Changes s old new
   -- a range file that no manifest lists
-  DropUnlisted : (file : RangeFile) (ranges : List RangeFile) → IsListedNowhere old file.name → Inserts file ranges old.ranges → new ≡ record old { ranges = ranges } → Changes s old new
-  DropLog : (file : LogFile) (logs : List LogFile) → Inserts file logs old.logs → new ≡ record old { logs = logs } → Changes s old new
-  DropManifest : (file : ManifestFile) (manifests : List ManifestFile) → Inserts file manifests old.manifests → new ≡ record old { manifests = manifests } → Changes s old new
+  DropUnlisted : (file : RangeFile) (ranges : List RangeFile) → IsListedNowhere old file.name
+      → Inserts file ranges old.ranges → new ≡ record old { ranges = ranges } → Changes s old new
+  DropLog : (file : LogFile) (logs : List LogFile) → Inserts file logs old.logs
+      → new ≡ record old { logs = logs } → Changes s old new
+  DropManifest : (file : ManifestFile) (manifests : List ManifestFile)
+      → Inserts file manifests old.manifests → new ≡ record old { manifests = manifests }
+      → Changes s old new
 
 -- honest files stay honest while the history grows
 abbrev pub GrowthLaw : Type 0
-GrowthLaw = (old new : Source) (folder : Folder) → Grows old new → IsHonest old folder → IsHonest new folder
+GrowthLaw = (old new : Source) (folder : Folder) → Grows old new → IsHonest old folder
+    → IsHonest new folder
 
 -- honest files stay honest as one of them comes or goes
 abbrev pub ChangeLaw : Type 0
@@ -58,9 +80,12 @@ no_files = record { ranges = []; logs = []; manifests = []; unreliable = 0 }
 
 -- the life of a container: what may have become of it, from an empty folder on
 pub data Reaches : Source → Folder → Type 0 where
-  Opens : (s : Source) → IsRising s.history → AllByRecursion (λ x. x.version ≤ s.now) s.history → Reaches s no_files
-  Waits : {old : Source} {folder : Folder} (new : Source) → Reaches old folder → Grows old new → Reaches new folder
-  Works : {s : Source} {old : Folder} (new : Folder) → Reaches s old → Changes s old new → Reaches s new
+  Opens : (s : Source) → IsRising s.history → AllByRecursion (λ x. x.version ≤ s.now) s.history
+      → Reaches s no_files
+  Waits : {old : Source} {folder : Folder} (new : Source) → Reaches old folder → Grows old new
+      → Reaches new folder
+  Works : {s : Source} {old : Folder} (new : Folder) → Reaches s old → Changes s old new
+      → Reaches s new
 
 -- at each moment of its life a container is faithful
 abbrev pub LifeLaw : Type 0

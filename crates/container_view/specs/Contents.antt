@@ -19,7 +19,8 @@ use Rattle.container_view.specs.Folder.{RangeContent}
 use Rattle.container_view.specs.Files.{Grammars}
 
 abbrev pub range_content : RangeBody → RangeContent
-range_content body = record { range = record { begin = body.begin; end = body.end }; pairs = body.pairs }
+range_content body =
+    record { range = record { begin = body.begin; end = body.end }; pairs = body.pairs }
 
 -- the grammars of the three kinds of file, each by the numbers in the file's name
 abbrev pub file_grammars : Grammars
@@ -31,7 +32,13 @@ file_grammars = record {
 
 pub record ContentsLaw : Type 0 where
   -- what the writers of range files and of log files give says what was written
-  pub range : (block : ℕ) (begin end : Bytes) (pairs : List Pair) → ranges.IsWritable block begin end pairs → AreRising pairs → file_grammars.range block (range_text block begin end pairs) ≡ Some (record { range = record { begin = begin; end = end }; pairs = pairs })
-  pub log : (begin end block : ℕ) (batches : List Batch) → end < 2 ^ 64 → logs.IsWritable block begin end batches → file_grammars.log begin end block (log_text block batches) ≡ Some batches
+  pub range : (block : ℕ) (begin end : Bytes) (pairs : List Pair)
+      → ranges.IsWritable block begin end pairs → AreRising pairs
+      → file_grammars.range block (range_text block begin end pairs)
+      ≡ Some (record { range = record { begin = begin; end = end }; pairs = pairs })
+  pub log : (begin end block : ℕ) (batches : List Batch) → end < 2 ^ 64
+      → logs.IsWritable block begin end batches
+      → file_grammars.log begin end block (log_text block batches) ≡ Some batches
   -- the text of a manifest, in the grammar of its name, says its files
-  pub manifest : (name : Name) (bytes : Bytes) (m : Manifest) → ManifestText name bytes m → file_grammars.manifest name bytes ≡ Some m.files
+  pub manifest : (name : Name) (bytes : Bytes) (m : Manifest) → ManifestText name bytes m
+      → file_grammars.manifest name bytes ≡ Some m.files

@@ -7,7 +7,14 @@ use Rattle.mutations.specs.declared.Batch.{Batch}
 use Rattle.fb_outside.specs.Files.{file_of}
 use Rattle.fb_outside.specs.declared.File.{File}
 use Rattle.file_names.specs.declared.Name.{Name}
-use Rattle.file_names.specs.declared.Name.TheVariants.{Range, Log, Manifest, Unreliable, Expired, Other}
+use Rattle.file_names.specs.declared.Name.TheVariants.{
+  Range,
+  Log,
+  Manifest,
+  Unreliable,
+  Expired,
+  Other,
+}
 use Rattle.file_names.specs.Spelling.{unreliable_text}
 use Rattle.file_names.specs.Reading.{after, name_of}
 use Rattle.container_view.specs.Folder.{RangeContent, RangeFile, LogFile, ManifestFile, Folder}
@@ -40,17 +47,27 @@ abbrev pub inside : Bytes → List File → List File
 inside container files = flat_map (λ file. renamed (name_in container file.name) file.bytes) files
 
 abbrev pub range_file : Grammars → Bytes → Bytes → ℕ → ℕ → RangeFile
-range_file g name bytes version block = record { name = name; version = version; block = block; content = g.range block bytes }
+range_file g name bytes version block =
+    record { name = name; version = version; block = block; content = g.range block bytes }
 
 abbrev pub log_file : Grammars → Bytes → Bytes → ℕ → ℕ → ℕ → LogFile
-log_file g name bytes begin end block = record { name = name; begin = begin; end = end; block = block; content = g.log begin end block bytes }
+log_file g name bytes begin end block =
+    record {
+      name = name;
+      begin = begin;
+      end = end;
+      block = block;
+      content = g.log begin end block bytes;
+    }
 
 abbrev pub manifest_file : Grammars → Bytes → Bytes → Name → ℕ → ℕ → ManifestFile
-manifest_file g name bytes said begin end = record { name = name; begin = begin; end = end; content = g.manifest said bytes }
+manifest_file g name bytes said begin end =
+    record { name = name; begin = begin; end = end; content = g.manifest said bytes }
 
 -- the file as one of each kind, by what its name says
 abbrev pub as_range : Grammars → Bytes → Bytes → Name → List RangeFile
-as_range g name bytes (Range snapshot version ticket block) = range_file g name bytes version block ∷ []
+as_range g name bytes (Range snapshot version ticket block) =
+    range_file g name bytes version block ∷ []
 as_range g name bytes (Log begin end ticket block) = []
 as_range g name bytes (Manifest begin end size ticket) = []
 as_range g name bytes Unreliable = []
@@ -66,7 +83,8 @@ as_log g name bytes Expired = []
 as_log g name bytes Other = []
 
 abbrev pub as_manifest : Grammars → Bytes → Bytes → Name → List ManifestFile
-as_manifest g name bytes (Manifest begin end size ticket) = manifest_file g name bytes (Manifest begin end size ticket) begin end ∷ []
+as_manifest g name bytes (Manifest begin end size ticket) =
+    manifest_file g name bytes (Manifest begin end size ticket) begin end ∷ []
 as_manifest g name bytes (Range snapshot version ticket block) = []
 as_manifest g name bytes (Log begin end ticket block) = []
 as_manifest g name bytes Unreliable = []
@@ -80,7 +98,8 @@ abbrev pub log_files : Grammars → List File → List LogFile
 log_files g files = flat_map (λ file. as_log g file.name file.bytes (name_of file.name)) files
 
 abbrev pub manifest_files : Grammars → List File → List ManifestFile
-manifest_files g files = flat_map (λ file. as_manifest g file.name file.bytes (name_of file.name)) files
+manifest_files g files =
+    flat_map (λ file. as_manifest g file.name file.bytes (name_of file.name)) files
 
 -- the number of a property file, 0 without the file
 abbrev pub end_of : Option Bytes → Option ℕ
@@ -92,7 +111,15 @@ unreliable_of files = end_of (file_of files unreliable_text)
 
 -- the folder of files with their names in it, none where the unreliable end isn't in its grammar
 abbrev pub folder_of : Grammars → List File → Option Folder
-folder_of g files = unreliable_of files >>= λ end. Some (record { ranges = range_files g files; logs = log_files g files; manifests = manifest_files g files; unreliable = end })
+folder_of g files =
+    unreliable_of files
+    >>= λ end. Some
+    (record {
+      ranges = range_files g files;
+      logs = log_files g files;
+      manifests = manifest_files g files;
+      unreliable = end;
+    })
 
 -- the folder of a container in a store
 abbrev pub folder_in : Grammars → Bytes → List File → Option Folder

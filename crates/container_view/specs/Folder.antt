@@ -10,7 +10,8 @@ pub record RangeContent : Type 0 where
   pub range : KeyRange
   pub pairs : List Pair
 
--- A range file: the pairs of a range at a version. The content is none where the bytes aren't in their grammar.
+-- A range file: the pairs of a range at a version. The content is none where the bytes aren't in
+-- their grammar.
 pub record RangeFile : Type 0 where
   pub name : Bytes
   pub version : ℕ
@@ -32,7 +33,8 @@ pub record ManifestFile : Type 0 where
   pub end : ℕ
   pub content : Option (List Bytes)
 
--- the files of a container by their kinds, and the unreliable end, below which no manifest may begin
+-- the files of a container by their kinds, and the unreliable end, below which no manifest may
+-- begin
 pub record Folder : Type 0 where
   pub ranges : List RangeFile
   pub logs : List LogFile

@@ -26,7 +26,8 @@ value_in s version key = state_at (limit_of s.block) s.history version key
 
 -- the body has the pairs of its range at that version
 abbrev pub HasState : Source → ℕ → RangeContent → Type 0
-HasState s version body = (key : Bytes) → holds body.range key ≡ true → value_of body.pairs key ≡ value_in s version key
+HasState s version body =
+    (key : Bytes) → holds body.range key ≡ true → value_of body.pairs key ≡ value_in s version key
 
 -- a range file that has the pairs of its range at its version
 pub record IsHonestRange (s : Source) (file : RangeFile) : Type 0 where
@@ -49,7 +50,8 @@ pub record Spans (begin end : ℕ) (pieces : List Piece) : Type 0 where
   pub greatest : (p : Piece) × IsIn p pieces × (p.version ≡ end)
 
 -- a manifest whose range files are there, don't overlap, and together hold the keys of the ranges
-pub record IsHonestManifest (s : Source) (ranges : List RangeFile) (file : ManifestFile) : Type 0 where
+pub record IsHonestManifest (s : Source) (ranges : List RangeFile)
+    (file : ManifestFile) : Type 0 where
   pub names : List Bytes
   pub content : file.content ≡ Some names
   pub pieces : List Piece
@@ -64,13 +66,15 @@ pub record IsHonest (s : Source) (folder : Folder) : Type 0 where
   pub past : AllByRecursion (λ x. x.version ≤ s.now) s.history
   pub ranges : (file : RangeFile) → IsIn file folder.ranges → IsHonestRange s file
   pub logs : (file : LogFile) → IsIn file folder.logs → IsHonestLog s file
-  pub manifests : (file : ManifestFile) → IsIn file folder.manifests → folder.unreliable ≤ file.begin → IsHonestManifest s folder.ranges file
+  pub manifests : (file : ManifestFile) → IsIn file folder.manifests
+      → folder.unreliable ≤ file.begin → IsHonestManifest s folder.ranges file
 
 -- the value of a key at a version, where the key is in the ranges
 abbrev pub true_value : Source → ℕ → Bytes → Option Bytes
 true_value s version key = cut (value_in s version) s.ranges key
 
--- what a reader may rely on at a version: it is past, and the files mean the state of the database, cut to the ranges
+-- what a reader may rely on at a version: it is past, and the files mean the state of the database,
+-- cut to the ranges
 pub record IsFaithfulAt (s : Source) (folder : Folder) (version : ℕ) : Type 0 where
   pub past : version ≤ s.now
   pub meaning : Bytes → Option Bytes

@@ -1,9 +1,31 @@
 -- The log files among names, in the order of their begins, and what is looked up in them.
-use Rattle.std.specs.Prelude.{◌≡◌, ℕ, ◌≤◌, max, List, [], ◌∷◌, map, Option, Some, None, if◌then◌else◌, nat_le, nat_lt}
+use Rattle.std.specs.Prelude.{
+  ◌≡◌,
+  ℕ,
+  ◌≤◌,
+  max,
+  List,
+  [],
+  ◌∷◌,
+  map,
+  Option,
+  Some,
+  None,
+  if◌then◌else◌,
+  nat_le,
+  nat_lt,
+}
 use Rattle.std.specs.List.{flat_map}
 use Rattle.fb_bytes.specs.Bytes.{Bytes}
 use Rattle.file_names.specs.declared.Name.{Name}
-use Rattle.file_names.specs.declared.Name.TheVariants.{Range, Log, Manifest, Unreliable, Expired, Other}
+use Rattle.file_names.specs.declared.Name.TheVariants.{
+  Range,
+  Log,
+  Manifest,
+  Unreliable,
+  Expired,
+  Other,
+}
 use Rattle.file_names.specs.Reading.{name_of}
 use Rattle.container_view.specs.declared.logs.NamedLog.{NamedLog}
 use Rattle.container_view.specs.declared.logs.Run.{Run}
@@ -69,7 +91,8 @@ better (Some best) log =
 abbrev pub bests : Option (Bytes × ℕ) → List LogFile → List LogFile
 bests best [] = []
 bests best (log ∷ logs) =
-    plain_log (better best log).0 log.begin (better best log).1 ∷ bests (Some (better best log)) logs
+    plain_log (better best log).0 log.begin (better best log).1 ∷ bests
+    (Some (better best log)) logs
 
 -- the runs of versions without a gap, where one is open and further logs follow
 abbrev pub runs_from : ℕ → ℕ → List LogFile → List Run

@@ -1,5 +1,23 @@
 -- What a container means at a version: the value of each key.
-use Rattle.std.specs.Prelude.{ℕ, ◌+◌, max, min, Bool, true, false, not, ◌&&◌, ◌||◌, List, [], ◌∷◌, Option, Some, None, if◌then◌else◌}
+use Rattle.std.specs.Prelude.{
+  ℕ,
+  ◌+◌,
+  max,
+  min,
+  Bool,
+  true,
+  false,
+  not,
+  ◌&&◌,
+  ◌||◌,
+  List,
+  [],
+  ◌∷◌,
+  Option,
+  Some,
+  None,
+  if◌then◌else◌,
+}
 use Rattle.fb_bytes.specs.Bytes.{Bytes, is_same}
 use Rattle.fb_bytes.specs.declared.KeyRange.{KeyRange}
 use Rattle.fb_bytes.specs.Keys.{holds}
@@ -21,12 +39,15 @@ pub record Piece : Type 0 where
   pub pairs : List Pair
 
 abbrev pub read_range : RangeFile → Option Piece
-read_range file = file.content >>= λ body. Some (record { version = file.version; range = body.range; pairs = body.pairs })
+read_range file =
+    file.content
+    >>= λ body. Some (record { version = file.version; range = body.range; pairs = body.pairs })
 
 -- the range file of that name, read
 abbrev pub piece_named : List RangeFile → Bytes → Option Piece
 piece_named [] name = None
-piece_named (file ∷ files) name = if is_same file.name name then read_range file else piece_named files name
+piece_named (file ∷ files) name =
+    if is_same file.name name then read_range file else piece_named files name
 
 -- a link whose file was read: its batches, and the versions that it gives
 pub record Part : Type 0 where
@@ -36,7 +57,10 @@ pub record Part : Type 0 where
   pub batches : List Batch
 
 abbrev pub read_link : LogLink → Option Part
-read_link link = link.file.content >>= λ batches. Some (record { from = link.from; to = link.to; block = link.file.block; batches = batches })
+read_link link =
+    link.file.content
+    >>= λ batches.
+    Some (record { from = link.from; to = link.to; block = link.file.block; batches = batches })
 
 -- the parts of a chain; without a chain there are none
 abbrev pub read_chain : Option (List LogLink) → Option (List Part)
@@ -56,10 +80,13 @@ abbrev pub piece_of : List Piece → Bytes → Option Piece
 piece_of [] key = None
 piece_of (piece ∷ pieces) key = if holds piece.range key then Some piece else piece_of pieces key
 
--- What the parts' batches with low <= version < high leave at a key, each part giving its own versions. A value that an operation appends to has the limit of the part's block.
+-- What the parts' batches with low <= version < high leave at a key, each part giving its own
+-- versions. A value that an operation appends to has the limit of the part's block.
 abbrev pub replayed_parts : List Part → ℕ → ℕ → Bytes → Option Bytes → Option Bytes
 replayed_parts [] low high key old = old
-replayed_parts (part ∷ parts) low high key old = replayed_parts parts low high key (replayed (limit_of part.block) part.batches (max part.from low) (min part.to high) key old)
+replayed_parts (part ∷ parts) low high key old =
+    replayed_parts parts low high key
+    (replayed (limit_of part.block) part.batches (max part.from low) (min part.to high) key old)
 
 -- the value of a key at a version: that of its piece, and then the batches since
 abbrev pub value_at : List Piece → List Part → ℕ → Bytes → Option Bytes
@@ -72,7 +99,8 @@ pub record Needed : Type 0 where
   pub pieces : List Piece
   pub parts : List Part
 
--- the range files of the chosen manifest and the log files of its chain, where they are there, in their grammar, and no two ranges overlap
+-- the range files of the chosen manifest and the log files of its chain, where they are there, in
+-- their grammar, and no two ranges overlap
 abbrev pub needed : Folder → ℕ → Option Needed
 needed folder version = do
   m ← chosen folder version

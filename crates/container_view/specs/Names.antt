@@ -1,10 +1,38 @@
 -- What the names of a container's files say without their bytes.
-use Rattle.std.specs.Prelude.{◌≡◌, ℕ, ◌-◌, max, ◌==◌, Bool, false, ◌&&◌, ◌||◌, List, [], ◌∷◌, map, Option, Some, None, option_map, if◌then◌else◌, nat_le, nat_lt}
+use Rattle.std.specs.Prelude.{
+  ◌≡◌,
+  ℕ,
+  ◌-◌,
+  max,
+  ◌==◌,
+  Bool,
+  false,
+  ◌&&◌,
+  ◌||◌,
+  List,
+  [],
+  ◌∷◌,
+  map,
+  Option,
+  Some,
+  None,
+  option_map,
+  if◌then◌else◌,
+  nat_le,
+  nat_lt,
+}
 use Rattle.std.specs.List.{flat_map}
 use Rattle.fb_bytes.specs.Bytes.{Bytes, is_same}
 use Rattle.fb_outside.specs.declared.File.{File}
 use Rattle.file_names.specs.declared.Name.{Name}
-use Rattle.file_names.specs.declared.Name.TheVariants.{Range, Log, Manifest, Unreliable, Expired, Other}
+use Rattle.file_names.specs.declared.Name.TheVariants.{
+  Range,
+  Log,
+  Manifest,
+  Unreliable,
+  Expired,
+  Other,
+}
 use Rattle.file_names.specs.Reading.{name_of}
 pub use Rattle.container_view.specs.declared.chaining.Link.{Link}
 use Rattle.container_view.specs.Folder.{LogFile, ManifestFile, Folder}
@@ -24,7 +52,8 @@ is_named (listed ∷ others) name = is_same listed name || is_named others name
 
 -- a log file of which only the name is known
 abbrev pub as_named_log : Bytes → Name → List LogFile
-as_named_log name (Log begin end ticket block) = record { name = name; begin = begin; end = end; block = block; content = None } ∷ []
+as_named_log name (Log begin end ticket block) =
+    record { name = name; begin = begin; end = end; block = block; content = None } ∷ []
 as_named_log name (Range snapshot version ticket block) = []
 as_named_log name (Manifest begin end size ticket) = []
 as_named_log name Unreliable = []
@@ -48,7 +77,8 @@ chain_named names from to = named_links (links (to - from) (logs_named names) fr
 
 -- a manifest of which only the name is known
 abbrev pub as_named_manifest : Bytes → Name → List ManifestFile
-as_named_manifest name (Manifest begin end size ticket) = record { name = name; begin = begin; end = end; content = None } ∷ []
+as_named_manifest name (Manifest begin end size ticket) =
+    record { name = name; begin = begin; end = end; content = None } ∷ []
 as_named_manifest name (Range snapshot version ticket block) = []
 as_named_manifest name (Log begin end ticket block) = []
 as_named_manifest name Unreliable = []
@@ -61,7 +91,13 @@ manifests_named names = flat_map (λ name. as_named_manifest name (name_of name)
 
 -- the log files and the manifests among these names, as a folder
 abbrev pub folder_named : List Bytes → ℕ → Folder
-folder_named names unreliable = record { ranges = []; logs = logs_named names; manifests = manifests_named names; unreliable = unreliable }
+folder_named names unreliable =
+    record {
+      ranges = [];
+      logs = logs_named names;
+      manifests = manifests_named names;
+      unreliable = unreliable;
+    }
 
 abbrev pub manifest_name : Option ManifestFile → Option Bytes
 manifest_name found = option_map (λ m. m.name) found
@@ -69,13 +105,17 @@ manifest_name found = option_map (λ m. m.name) found
 -- a folder of names alone has the chains, the manifests and the advertised versions of the folder
 pub record AreNamesOf (names : List Bytes) (folder : Folder) : Type 0 where
   pub chains : (from to : ℕ) → chain_named names from to ≡ named_links (chain folder from to)
-  pub manifest : (version : ℕ) → manifest_name (chosen (folder_named names folder.unreliable) version) ≡ manifest_name (chosen folder version)
-  pub advertised : (version : ℕ) → is_advertised (folder_named names folder.unreliable) version ≡ is_advertised folder version
+  pub manifest : (version : ℕ)
+      → manifest_name (chosen (folder_named names folder.unreliable) version)
+      ≡ manifest_name (chosen folder version)
+  pub advertised : (version : ℕ) → is_advertised (folder_named names folder.unreliable) version
+      ≡ is_advertised folder version
   pub bounds : advertised_bounds (folder_named names folder.unreliable) ≡ advertised_bounds folder
 
 -- the names of a folder's files tell this of the folder
 abbrev pub NamesLaw : Type 0
-NamesLaw = (g : Grammars) (files : List File) (folder : Folder) → folder_of g files ≡ Some folder → AreNamesOf (map (λ file. file.name) files) folder
+NamesLaw = (g : Grammars) (files : List File) (folder : Folder) → folder_of g files ≡ Some folder
+    → AreNamesOf (map (λ file. file.name) files) folder
 
 -- a log file by its name and end
 abbrev pub seen : Option LogFile → Option (Bytes × ℕ)

@@ -1,12 +1,29 @@
 -- The number that a property file holds.
-use Rattle.std.specs.Prelude.{◌≡◌, ℕ, ◌^◌, ◌≤◌, ◌↔◌, ◌&&◌, length, decimal, Option, Some, None, nat_le, ◌==◌, if◌then◌else◌}
+use Rattle.std.specs.Prelude.{
+  ◌≡◌,
+  ℕ,
+  ◌^◌,
+  ◌≤◌,
+  ◌↔◌,
+  ◌&&◌,
+  length,
+  decimal,
+  Option,
+  Some,
+  None,
+  nat_le,
+  ◌==◌,
+  if◌then◌else◌,
+}
 use Rattle.fb_bytes.specs.Bytes.{Bytes}
 use Rattle.fb_bytes.specs.Options.{◌>>=◌}
 use Rattle.file_names.specs.Reading.{number_at}
 
 -- the number in decimal and nothing else, at most 2^62
 unfoldable pub property_of : Bytes → Option ℕ
-property_of bytes = number_at bytes >>= λ front. if length front.1 == 0 && nat_le front.0 (2 ^ 62) then Some front.0 else None
+property_of bytes =
+    number_at bytes >>= λ front. if length front.1 == 0 && nat_le front.0 (2 ^ 62) then Some front.0
+    else None
 
 -- the number that a property has, if its file is there; none where the file isn't in its grammar
 abbrev pub property_in : Option Bytes → Option (Option ℕ)
@@ -15,4 +32,5 @@ property_in (Some bytes) = property_of bytes >>= λ n. Some (Some n)
 
 -- the bytes hold a number exactly where they are its decimal text, and it is at most 2^62
 abbrev pub PropertyLaw : Type 0
-PropertyLaw = (bytes : Bytes) (n : ℕ) → (property_of bytes ≡ Some n) ↔ ((bytes ≡ decimal n) × (n ≤ 2 ^ 62))
+PropertyLaw =
+    (bytes : Bytes) (n : ℕ) → (property_of bytes ≡ Some n) ↔ ((bytes ≡ decimal n) × (n ≤ 2 ^ 62))

@@ -13,8 +13,10 @@ use std::alloc::{AllocError, Global};
 
 /// The same names in byte order.
 pub(crate) fn in_order<'a>(alloc: Global, names: &'a [Text]) -> Result<Vec<&'a Text>, AllocError>
-    ensures sorted { IfOk result (λ list. IsSortedByKey (λ name. name.now) (slice_cmp nat_cmp) list.items) }
-    ensures same { IfOk result (λ list. (name : Bytes) → is_named (texts list.items) name ≡ is_named names.now name) }
+    ensures sorted { IfOk result
+        (λ list. IsSortedByKey (λ name. name.now) (slice_cmp nat_cmp) list.items) }
+    ensures same { IfOk result (λ list. (name : Bytes) → is_named (texts list.items) name
+        ≡ is_named names.now name) }
 {
     let mut list = each(alloc, names)?;
     list.sort()?;

@@ -131,7 +131,8 @@ fn with_bests<'a>(alloc: Global, logs: &[NamedLog<'a>]) -> Result<Vec<NamedLog<'
 
 /// The name and end of the best so far or, where it comes first, of one log file more.
 fn better<'a>(best: Option<(&'a Text, u64)>, log: &NamedLog<'a>) -> (&'a Text, u64)
-    ensures { (result.0.now, result.1) ≡ better (option_map (λ x. (x.0.now, x.1)) best.entry) (log_of log.now) }
+    ensures { (result.0.now, result.1) ≡ better (option_map (λ x. (x.0.now, x.1)) best.entry)
+        (log_of log.now) }
 {
     let Some((name, end)) = best else {
         return (log.name, log.end);

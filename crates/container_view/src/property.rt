@@ -1,10 +1,8 @@
 ghost use Rattle.std.specs.Prelude.{◌≡◌};
 ghost use Rattle.container_view.specs.Property.{property_of};
 
+use fb_bytes::MOST_NUMBER;
 use file_names::number_at;
-
-/// The greatest version.
-const LAST: u64 = 1 << 62;
 
 /// The number that a property file holds: in decimal and nothing else, at most 2^62. It takes no
 /// memory.
@@ -13,7 +11,7 @@ pub fn read_property(bytes: &[u8]) -> Option<u64>
     ensures { result ≡ property_of bytes.now }
 {
     let (number, rest) = number_at(bytes)?;
-    if rest.is_empty() && number <= LAST {
+    if rest.is_empty() && number <= MOST_NUMBER {
         Some(number)
     } else {
         None

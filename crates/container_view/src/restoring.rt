@@ -39,10 +39,14 @@ pub fn get_file<V: Vault>(
     container: &Text,
     name: &Text,
 ) -> Result<Blob, ViewFault>
-    ensures ok { IfOk result (λ bytes. (files : List File) → V.files vault.old ≡ Some files → file_of (inside container.now files) name.now ≡ Some bytes) }
-    ensures err { IfErr result (λ fault. (files : List File) → V.files vault.old ≡ Some files → spec.Fails fault (ok_or (file_of (inside container.now files) name.now) (faults.Missing name.now))) }
+    ensures ok { IfOk result (λ bytes. (files : List File) → V.files vault.old ≡ Some files
+        → file_of (inside container.now files) name.now ≡ Some bytes) }
+    ensures err { IfErr result (λ fault. (files : List File) → V.files vault.old ≡ Some files
+        → spec.Fails fault
+        (ok_or (file_of (inside container.now files) name.now) (faults.Missing name.now))) }
     ensures same { V.files vault.new ≡ V.files vault.old }
-    ensures count { Counts (V.faults vault.old) (V.faults vault.new) (IsErrOf result ViewFault.VaultFault) }
+    ensures count { Counts (V.faults vault.old) (V.faults vault.new)
+        (IsErrOf result ViewFault.VaultFault) }
     ensures called { V.calls vault.new ≤ V.calls vault.old + 1 }
 {
     let whole = whole_name(alloc, container, name.as_str())?;
@@ -65,10 +69,13 @@ pub fn restore_set<V: Vault>(
     container: &Text,
     version: u64,
 ) -> Result<RestoreSet, ViewFault>
-    ensures ok { IfOk result (λ set. (files : List File) → V.files vault.old ≡ Some files → spec.set_of (inside container.now files) version ≡ Ok set) }
-    ensures err { IfErr result (λ fault. (files : List File) → V.files vault.old ≡ Some files → spec.Fails fault (spec.set_of (inside container.now files) version)) }
+    ensures ok { IfOk result (λ set. (files : List File) → V.files vault.old ≡ Some files
+        → spec.set_of (inside container.now files) version ≡ Ok set) }
+    ensures err { IfErr result (λ fault. (files : List File) → V.files vault.old ≡ Some files
+        → spec.Fails fault (spec.set_of (inside container.now files) version)) }
     ensures same { V.files vault.new ≡ V.files vault.old }
-    ensures count { Counts (V.faults vault.old) (V.faults vault.new) (IsErrOf result ViewFault.VaultFault) }
+    ensures count { Counts (V.faults vault.old) (V.faults vault.new)
+        (IsErrOf result ViewFault.VaultFault) }
     ensures called { V.calls vault.new ≤ V.calls vault.old + 4 }
 {
     let names = list_names(alloc, vault, container)?;
@@ -93,10 +100,14 @@ fn set_by<V: Vault>(
     unreliable: u64,
     version: u64,
 ) -> Result<RestoreSet, ViewFault>
-    ensures ok { IfOk result (λ set. (files : List File) → V.files vault.old ≡ Some files → spec.set_by (inside container.now files) names.now unreliable version ≡ Ok set) }
-    ensures err { IfErr result (λ fault. (files : List File) → V.files vault.old ≡ Some files → spec.Fails fault (spec.set_by (inside container.now files) names.now unreliable version)) }
+    ensures ok { IfOk result (λ set. (files : List File) → V.files vault.old ≡ Some files
+        → spec.set_by (inside container.now files) names.now unreliable version ≡ Ok set) }
+    ensures err { IfErr result (λ fault. (files : List File) → V.files vault.old ≡ Some files
+        → spec.Fails fault
+        (spec.set_by (inside container.now files) names.now unreliable version)) }
     ensures same { V.files vault.new ≡ V.files vault.old }
-    ensures count { Counts (V.faults vault.old) (V.faults vault.new) (IsErrOf result ViewFault.VaultFault) }
+    ensures count { Counts (V.faults vault.old) (V.faults vault.new)
+        (IsErrOf result ViewFault.VaultFault) }
     ensures called { V.calls vault.new ≤ V.calls vault.old + 1 }
 {
     let Some(name) = manifest_for(alloc, names, unreliable, version)? else {
@@ -129,10 +140,13 @@ fn get_manifest<V: Vault>(
     container: &Text,
     name: &Text,
 ) -> Result<Manifest, ViewFault>
-    ensures ok { IfOk result (λ manifest. (files : List File) → V.files vault.old ≡ Some files → spec.manifest_at (inside container.now files) name.now ≡ Ok manifest) }
-    ensures err { IfErr result (λ fault. (files : List File) → V.files vault.old ≡ Some files → spec.Fails fault (spec.manifest_at (inside container.now files) name.now)) }
+    ensures ok { IfOk result (λ manifest. (files : List File) → V.files vault.old ≡ Some files
+        → spec.manifest_at (inside container.now files) name.now ≡ Ok manifest) }
+    ensures err { IfErr result (λ fault. (files : List File) → V.files vault.old ≡ Some files
+        → spec.Fails fault (spec.manifest_at (inside container.now files) name.now)) }
     ensures same { V.files vault.new ≡ V.files vault.old }
-    ensures count { Counts (V.faults vault.old) (V.faults vault.new) (IsErrOf result ViewFault.VaultFault) }
+    ensures count { Counts (V.faults vault.old) (V.faults vault.new)
+        (IsErrOf result ViewFault.VaultFault) }
     ensures called { V.calls vault.new ≤ V.calls vault.old + 1 }
 {
     let bytes = get_file(alloc, vault, container, name)?;
@@ -141,8 +155,11 @@ fn get_manifest<V: Vault>(
 
 // The manifest that a file's bytes are.
 fn read_manifest(alloc: Global, name: &Text, bytes: &[u8]) -> Result<Manifest, ViewFault>
-    ensures ok { IfOk result (λ manifest. manifest_read (name_of name.now) bytes.now ≡ Ok manifest) }
-    ensures err { IfErr result (λ fault. (fault ≡ faults.NoMemory) ⊎ (spec.in_file (λ fault. file_faults.Manifest fault) name.now (manifest_read (name_of name.now) bytes.now) ≡ Err fault)) }
+    ensures ok { IfOk result (λ manifest. manifest_read (name_of name.now) bytes.now
+        ≡ Ok manifest) }
+    ensures err { IfErr result (λ fault. (fault ≡ faults.NoMemory)
+        ⊎ (spec.in_file (λ fault. file_faults.Manifest fault) name.now
+        (manifest_read (name_of name.now) bytes.now) ≡ Err fault)) }
 {
     match manifests::read(alloc, bytes, &parse(name.as_bytes())) {
         Ok(manifest) => Ok(manifest),
@@ -164,8 +181,12 @@ fn set_with(
     manifest: Manifest,
     version: u64,
 ) -> Result<RestoreSet, ViewFault>
-    ensures ok { IfOk result (λ set. spec.set_with names.now manifest version (spec.first_unlisted names.now manifest.files) ≡ Ok set) }
-    ensures err { IfErr result (λ fault. (fault ≡ faults.NoMemory) ⊎ (spec.set_with names.now manifest version (spec.first_unlisted names.now manifest.files) ≡ Err fault)) }
+    ensures ok { IfOk result
+        (λ set. spec.set_with names.now manifest version
+        (spec.first_unlisted names.now manifest.files) ≡ Ok set) }
+    ensures err { IfErr result (λ fault. (fault ≡ faults.NoMemory)
+        ⊎ (spec.set_with names.now manifest version (spec.first_unlisted names.now manifest.files)
+        ≡ Err fault)) }
 {
     if let Some(name) = first_unlisted(alloc, names, manifest.files.as_slice())? {
         let name = name.copy()?;
@@ -189,7 +210,8 @@ fn first_unlisted<'a>(
     names: &Names,
     wanted: &'a [Text],
 ) -> Result<Option<&'a Text>, AllocError>
-    ensures { IfOk result (λ found. option_map (λ name. name.now) found ≡ spec.first_unlisted names.now wanted.now) }
+    ensures { IfOk result (λ found. option_map (λ name. name.now) found
+        ≡ spec.first_unlisted names.now wanted.now) }
 {
     let listed = in_order(alloc, names.as_slice())?;
     'wanted: for name in wanted {

@@ -26,7 +26,8 @@ pub fn restorable(
     names: &Names,
     unreliable: u64,
 ) -> Result<Option<Bounds>, AllocError>
-    ensures { IfOk result (λ bounds. bounds ≡ spec.advertised_bounds (folder_named names.now unreliable)) }
+    ensures { IfOk result
+        (λ bounds. bounds ≡ spec.advertised_bounds (folder_named names.now unreliable)) }
 {
     let runs = runs(alloc, names.as_slice())?;
     let mut bounds = None;
@@ -80,7 +81,8 @@ pub fn manifest_for<'a>(
     unreliable: u64,
     version: u64,
 ) -> Result<Option<&'a Text>, AllocError>
-    ensures { IfOk result (λ name. option_map (λ name. name.now) name ≡ manifest_name (chosen (folder_named names.now unreliable) version)) }
+    ensures { IfOk result (λ name. option_map (λ name. name.now) name
+        ≡ manifest_name (chosen (folder_named names.now unreliable) version)) }
 {
     let runs = runs(alloc, names.as_slice())?;
     let mut best = None;
@@ -102,7 +104,9 @@ fn better_manifest<'a>(
     version: u64,
 ) -> Option<(&'a Text, u64)>
     requires { IsRisingBy (λ run. run.begin) 0 runs.now }
-    ensures { option_map (λ x. (x.0.now, x.1)) result ≡ better_manifest (reach_in runs.now) unreliable version (option_map (λ x. (x.0.now, x.1)) best.entry) name.now (name_of name.now) }
+    ensures { option_map (λ x. (x.0.now, x.1)) result
+        ≡ better_manifest (reach_in runs.now) unreliable version
+        (option_map (λ x. (x.0.now, x.1)) best.entry) name.now (name_of name.now) }
 {
     let Name::Manifest { begin, end, .. } = parse(name.as_bytes()) else {
         return best;

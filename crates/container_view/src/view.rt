@@ -86,12 +86,16 @@ pub fn list_names<V: Vault>(
     vault: &mut V,
     container: &Text,
 ) -> Result<Names, ViewFault>
-    ensures names { IfOk result (λ names. (files : List File) → V.files vault.old ≡ Some files → names ≡ names_inside container.now files) }
+    ensures names { IfOk result (λ names. (files : List File) → V.files vault.old ≡ Some files
+        → names ≡ names_inside container.now files) }
     ensures some { IfOk result (λ names. names ≢ []) }
-    ensures faults { IfErr result (λ e. (e ≡ faults.NoContainer) ⊎ (e ≡ faults.VaultFault) ⊎ (e ≡ faults.NoMemory)) }
-    ensures none { IsErrOf result ViewFault.NoContainer → (files : List File) → V.files vault.old ≡ Some files → names_inside container.now files ≡ [] }
+    ensures faults { IfErr result (λ e. (e ≡ faults.NoContainer) ⊎ (e ≡ faults.VaultFault)
+        ⊎ (e ≡ faults.NoMemory)) }
+    ensures none { IsErrOf result ViewFault.NoContainer → (files : List File)
+        → V.files vault.old ≡ Some files → names_inside container.now files ≡ [] }
     ensures same { V.files vault.new ≡ V.files vault.old }
-    ensures count { Counts (V.faults vault.old) (V.faults vault.new) (IsErrOf result ViewFault.VaultFault) }
+    ensures count { Counts (V.faults vault.old) (V.faults vault.new)
+        (IsErrOf result ViewFault.VaultFault) }
     ensures called { V.calls vault.new ≡ counted (V.calls vault.old) }
 {
     let names = vault.list(alloc, container)?;
@@ -111,11 +115,19 @@ pub fn get_property<V: Vault>(
     names: &Names,
     property: &str,
 ) -> Result<Option<u64>, ViewFault>
-    ensures found { IfOk result (λ number. (files : List File) → V.files vault.old ≡ Some files → names.now ≡ names_inside container.now files → property_in (file_of (inside container.now files) property.now) ≡ Some number) }
-    ensures damaged { IfErr result (λ e. (e ≡ faults.VaultFault) ⊎ (e ≡ faults.NoMemory) ⊎ ((e ≡ faults.Damaged property.now file_faults.Property) × ((files : List File) → V.files vault.old ≡ Some files → names.now ≡ names_inside container.now files → property_in (file_of (inside container.now files) property.now) ≡ None))) }
-    ensures unlisted { is_named names.now property.now ≡ false → (result ≡ Ok None) × (V.faults vault.new ≡ V.faults vault.old) }
+    ensures found { IfOk result (λ number. (files : List File) → V.files vault.old ≡ Some files
+        → names.now ≡ names_inside container.now files
+        → property_in (file_of (inside container.now files) property.now) ≡ Some number) }
+    ensures damaged { IfErr result (λ e. (e ≡ faults.VaultFault) ⊎ (e ≡ faults.NoMemory)
+        ⊎ ((e ≡ faults.Damaged property.now file_faults.Property)
+        × ((files : List File) → V.files vault.old ≡ Some files
+        → names.now ≡ names_inside container.now files
+        → property_in (file_of (inside container.now files) property.now) ≡ None))) }
+    ensures unlisted { is_named names.now property.now ≡ false → (result ≡ Ok None)
+        × (V.faults vault.new ≡ V.faults vault.old) }
     ensures same { V.files vault.new ≡ V.files vault.old }
-    ensures count { Counts (V.faults vault.old) (V.faults vault.new) (IsErrOf result ViewFault.VaultFault) }
+    ensures count { Counts (V.faults vault.old) (V.faults vault.new)
+        (IsErrOf result ViewFault.VaultFault) }
     ensures called { V.calls vault.new ≤ V.calls vault.old + 1 }
 {
     if !is_named(names, property) {

@@ -1,5 +1,27 @@
 -- What a commit answers, and what it leaves.
-use Rattle.std.specs.Prelude.{ℕ, ◌+◌, ◌-◌, ◌^◌, min, Bool, List, [], ◌∷◌, ◌++◌, length, Option, Some, None, Result, Ok, Err, nat_le, nat_lt, if◌then◌else◌}
+use Rattle.std.specs.Prelude.{
+  ℕ,
+  ◌+◌,
+  ◌-◌,
+  ◌^◌,
+  min,
+  Bool,
+  List,
+  [],
+  ◌∷◌,
+  ◌++◌,
+  length,
+  Option,
+  Some,
+  None,
+  Result,
+  Ok,
+  Err,
+  nat_le,
+  nat_lt,
+  if◌then◌else◌,
+}
+use Rattle.fb_bytes.specs.Limits.{most_number}
 use Rattle.block_frame.specs.Profiles.{key_limit_of, limit_of}
 use Rattle.mutations.specs.declared.Entry.{Entry}
 use Rattle.mutations.specs.declared.Who.{Who}
@@ -25,7 +47,7 @@ pub record Database : Type 0 where
 
 -- the greatest version
 abbrev pub most_version : ℕ
-most_version = 4611686018427387904
+most_version = most_number
 
 -- the mutation bytes of a batch; a count of more than 2 ^ 128 - 1 stops there
 abbrev pub counted_bytes : List Mutation → ℕ
@@ -37,7 +59,9 @@ is_large muts = nat_le (2 ^ 32) (length (mutations_spelling muts))
 
 -- the bytes that a log would take of these mutations, where they are too many
 abbrev pub large_of : JobLog → List Mutation → Option ℕ
-large_of log muts = if is_large (all_clipped log.ranges muts) then Some (counted_bytes (all_clipped log.ranges muts)) else None
+large_of log muts =
+    if is_large (all_clipped log.ranges muts)
+    then Some (counted_bytes (all_clipped log.ranges muts)) else None
 
 -- the same for the first of the logs for which they are too many
 abbrev pub large_in : List JobLog → List Mutation → Option ℕ
@@ -48,23 +72,30 @@ abbrev pub unless_large : Option ℕ → ℕ → Result (Option ℕ) CommitFault
 unless_large None version = Ok (Some version)
 unless_large (Some bytes) version = Err (LogTooLarge bytes)
 
--- without writes no version is taken; else the next one is, where there is one and the writes aren't too large for a log
+-- without writes no version is taken; else the next one is, where there is one and the writes
+-- aren't too large for a log
 abbrev pub version_taken : ℕ → ℕ → List JobLog → List Mutation → Result (Option ℕ) CommitFault
 version_taken time pace logs [] = Ok None
-version_taken time pace logs (m ∷ ms) = if nat_lt most_version (time + pace) then Err (VersionsSpent time) else unless_large (large_in logs (m ∷ ms)) (time + pace)
+version_taken time pace logs (m ∷ ms) =
+    if nat_lt most_version (time + pace) then Err (VersionsSpent time)
+    else unless_large (large_in logs (m ∷ ms)) (time + pace)
 
-abbrev pub unless_fault : Option TxFault → Result (Option ℕ) CommitFault → Result (Option ℕ) CommitFault
+abbrev pub unless_fault : Option TxFault → Result (Option ℕ) CommitFault
+    → Result (Option ℕ) CommitFault
 unless_fault None answer = answer
 unless_fault (Some fault) answer = Err (of_transaction fault)
 
 -- the version that a commit takes, or its first fault
 abbrev pub commit_answer : ℕ → ℕ → ℕ → List JobLog → List TxOp → Result (Option ℕ) CommitFault
-commit_answer block time pace logs ops = unless_fault (tx_fault (key_limit_of block) (limit_of block) ops) (version_taken time pace logs (writes_of ops))
+commit_answer block time pace logs ops =
+    unless_fault (tx_fault (key_limit_of block) (limit_of block) ops)
+    (version_taken time pace logs (writes_of ops))
 
 -- the history with the entry of a version that was taken
 abbrev pub history_after : Option ℕ → Who → List Mutation → List Entry → List Entry
 history_after None who muts history = history
-history_after (Some version) who muts history = history ++ record { version = version; who = who; muts = muts } ∷ []
+history_after (Some version) who muts history =
+    history ++ record { version = version; who = who; muts = muts } ∷ []
 
 -- the newest version, once one may have been taken
 abbrev pub time_after : Option ℕ → ℕ → ℕ
@@ -73,4 +104,5 @@ time_after (Some version) time = version
 
 -- the version that a step of a job takes, where there is one
 abbrev pub next_version : ℕ → ℕ → Result ℕ SystemFault
-next_version time pace = if nat_lt most_version (time + pace) then Err (system.VersionsSpent time) else Ok (time + pace)
+next_version time pace =
+    if nat_lt most_version (time + pace) then Err (system.VersionsSpent time) else Ok (time + pace)

@@ -1,5 +1,17 @@
 -- The pairs of a range at a version, by the history alone.
-use Rattle.std.specs.Prelude.{ℕ, ◌≤◌, List, [], ◌∷◌, ◌++◌, length, Option, Some, None, if◌then◌else◌}
+use Rattle.std.specs.Prelude.{
+  ℕ,
+  ◌≤◌,
+  List,
+  [],
+  ◌∷◌,
+  ◌++◌,
+  length,
+  Option,
+  Some,
+  None,
+  if◌then◌else◌,
+}
 use Rattle.std.specs.List.{AllByRecursion}
 use Rattle.fb_bytes.specs.Bytes.{Bytes, is_below, is_same}
 use Rattle.fb_bytes.specs.declared.KeyRange.{KeyRange}
@@ -47,11 +59,13 @@ pairs_of state (key ∷ keys) = pair_of key (state key) ++ pairs_of state keys
 
 -- the value of a key of the range at a version; a key outside the range has none
 abbrev pub value_within : ℕ → List Entry → ℕ → KeyRange → Bytes → Option Bytes
-value_within block history version range key = if holds range key then state_at (limit_of block) history version key else None
+value_within block history version range key =
+    if holds range key then state_at (limit_of block) history version key else None
 
 -- the pairs of a range at a version
 abbrev pub pairs_at : ℕ → List Entry → ℕ → KeyRange → List Pair
-pairs_at block history version range = pairs_of (value_within block history version range) (keys_of history)
+pairs_at block history version range =
+    pairs_of (value_within block history version range) (keys_of history)
 
 -- the lengths of a key, and of a value or a parameter, are within the limits of the block
 abbrev pub FitBlock : ℕ → Bytes → Bytes → Type 0
@@ -69,4 +83,5 @@ AreMutationsWithin block muts = AllByRecursion (IsWithin block) muts
 
 -- and each mutation of each entry
 abbrev pub AreWithin : ℕ → List Entry → Type 0
-AreWithin block history = AllByRecursion (λ (entry : Entry). AreMutationsWithin block entry.muts) history
+AreWithin block history =
+    AllByRecursion (λ (entry : Entry). AreMutationsWithin block entry.muts) history

@@ -1,5 +1,19 @@
 -- The logs of jobs, in the order of the jobs' numbers.
-use Rattle.std.specs.Prelude.{ℕ, ◌<◌, not, List, [], ◌∷◌, Option, Some, None, nat_eq, nat_le, nat_lt, if◌then◌else◌}
+use Rattle.std.specs.Prelude.{
+  ℕ,
+  ◌<◌,
+  not,
+  List,
+  [],
+  ◌∷◌,
+  Option,
+  Some,
+  None,
+  nat_eq,
+  nat_le,
+  nat_lt,
+  if◌then◌else◌,
+}
 use Rattle.std.specs.List.{AllByRecursion, filter, position_or_len}
 pub use Rattle.database.specs.declared.job_log.JobLog.{JobLog}
 
@@ -16,7 +30,8 @@ log_of (log ∷ logs) job = if nat_eq log.job job then Some log else log_of logs
 -- one log more, behind those of the jobs with lower numbers
 abbrev pub with_log : JobLog → List JobLog → List JobLog
 with_log new [] = new ∷ []
-with_log new (log ∷ logs) = if nat_lt log.job new.job then log ∷ with_log new logs else new ∷ log ∷ logs
+with_log new (log ∷ logs) =
+    if nat_lt log.job new.job then log ∷ with_log new logs else new ∷ log ∷ logs
 
 -- the logs of the other jobs
 abbrev pub without_log : ℕ → List JobLog → List JobLog

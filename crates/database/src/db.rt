@@ -100,8 +100,12 @@ impl Db {
 
     /// What `commit` would answer. It changes nothing.
     pub fn check(&self, versions: &Versions, tx: &Tx) -> Result<Committed, CommitFault>
-        ensures ok { IfOk result (λ done. commit_answer self.now.block versions.entry.now.now versions.entry.now.pace self.now.logs tx.now.ops.now ≡ Ok done.version) }
-        ensures err { IfErr result (λ fault. (fault ≡ CommitFault.NoMemory) ⊎ (commit_answer self.now.block versions.entry.now.now versions.entry.now.pace self.now.logs tx.now.ops.now ≡ Err fault)) }
+        ensures ok { IfOk result
+            (λ done. commit_answer self.now.block versions.entry.now.now versions.entry.now.pace
+            self.now.logs tx.now.ops.now ≡ Ok done.version) }
+        ensures err { IfErr result (λ fault. (fault ≡ CommitFault.NoMemory)
+            ⊎ (commit_answer self.now.block versions.entry.now.now versions.entry.now.pace
+            self.now.logs tx.now.ops.now ≡ Err fault)) }
     {
         match fault_of(tx.ops.as_slice(), self.profile.key, self.profile.value) {
             Some(fault) => Err(CommitFault::from(fault)),
@@ -115,11 +119,23 @@ impl Db {
     /// Makes one entry of the writes, at the next version. A fault changes nothing.
     pub fn commit(&mut self, versions: &mut Versions, tx: &Tx) -> Result<Committed, CommitFault>
         requires pace { 1 ≤ versions.old.pace }
-        requires past { AllByRecursion (λ (entry : Entry). entry.version ≤ versions.old.now) self.old.history }
-        ensures ok { IfOk result (λ done. commit_answer self.old.block versions.old.now versions.old.pace self.old.logs tx.now.ops.now ≡ Ok done.version) }
-        ensures err { IfErr result (λ fault. (fault ≡ CommitFault.NoMemory) ⊎ (commit_answer self.old.block versions.old.now versions.old.pace self.old.logs tx.now.ops.now ≡ Err fault)) }
-        ensures entry { IfOk result (λ done. self.new ≡ record self.old { history = history_after done.version tx.now.who (writes_of tx.now.ops.now) self.old.history }) }
-        ensures time { IfOk result (λ done. versions.new ≡ record versions.old { now = time_after done.version versions.old.now }) }
+        requires past { AllByRecursion (λ (entry : Entry). entry.version ≤ versions.old.now)
+            self.old.history }
+        ensures ok { IfOk result
+            (λ done. commit_answer self.old.block versions.old.now versions.old.pace self.old.logs
+            tx.now.ops.now ≡ Ok done.version) }
+        ensures err { IfErr result (λ fault. (fault ≡ CommitFault.NoMemory)
+            ⊎ (commit_answer self.old.block versions.old.now versions.old.pace self.old.logs
+            tx.now.ops.now ≡ Err fault)) }
+        ensures entry { IfOk result
+            (λ done. self.new
+            ≡ record self.old {
+              history = history_after done.version tx.now.who
+                  (writes_of tx.now.ops.now) self.old.history;
+            }) }
+        ensures time { IfOk result
+            (λ done. versions.new
+            ≡ record versions.old { now = time_after done.version versions.old.now }) }
         ensures refused { OnErr result ((self.new ≡ self.old) × (versions.new ≡ versions.old)) }
     {
         let done = self.check(versions, tx)?;
@@ -138,9 +154,15 @@ impl Db {
         version: u64,
     ) -> Result<(), AllocError>
         requires pace { 1 ≤ versions.old.pace }
-        requires past { AllByRecursion (λ (entry : Entry). entry.version ≤ versions.old.now) self.old.history }
-        requires checked { commit_answer self.old.block versions.old.now versions.old.pace self.old.logs tx.now.ops.now ≡ Ok (Some version) }
-        ensures entry { OnOk result (self.new ≡ record self.old { history = history_after (Some version) tx.now.who (writes_of tx.now.ops.now) self.old.history }) }
+        requires past { AllByRecursion (λ (entry : Entry). entry.version ≤ versions.old.now)
+            self.old.history }
+        requires checked { commit_answer self.old.block versions.old.now versions.old.pace
+            self.old.logs tx.now.ops.now ≡ Ok (Some version) }
+        ensures entry { OnOk result
+            (self.new ≡ record self.old {
+              history = history_after (Some version) tx.now.who
+                  (writes_of tx.now.ops.now) self.old.history;
+            }) }
         ensures time { OnOk result (versions.new ≡ record versions.old { now = version }) }
         ensures refused { OnErr result ((self.new ≡ self.old) × (versions.new ≡ versions.old)) }
     {
@@ -154,7 +176,9 @@ impl Db {
 
     /// The pairs of a range at `now`.
     pub fn dump(&self, versions: &Versions, range: &KeyRange) -> Result<Pairs, AllocError>
-        ensures pairs { IfOk result (λ pairs. pairs ≡ pairs_at self.now.block self.now.history versions.entry.now.now range.now) }
+        ensures pairs { IfOk result
+            (λ pairs. pairs
+            ≡ pairs_at self.now.block self.now.history versions.entry.now.now range.now) }
     {
         let page = self.store.scan(range, versions.now, usize::MAX)?;
         let _few = len_of(page.pairs.as_slice());
@@ -173,7 +197,8 @@ impl Db {
         requires { (log : JobLog) × (log_of self.now.logs job ≡ Some log) }
         ensures begin { IfOk result (λ chunk. chunk.begin ≡ begin) }
         ensures end { IfOk result (λ chunk. chunk.end ≡ end) }
-        ensures batches { IfOk result (λ chunk. (log : JobLog) → log_of self.now.logs job ≡ Some log → chunk.batches ≡ logged self.now.history log.ranges begin end) }
+        ensures batches { IfOk result (λ chunk. (log : JobLog) → log_of self.now.logs job ≡ Some log
+            → chunk.batches ≡ logged self.now.history log.ranges begin end) }
     {
         let batches = match log_of(&self.logs, job) {
             Some(log) => logged(self.alloc, self.history.as_slice(), &log.ranges, begin, end)?,
@@ -194,10 +219,18 @@ impl Db {
         ranges: &Ranges,
     ) -> Result<u64, SystemFault>
         requires { log_of self.old.logs job ≡ None }
-        ensures ok { IfOk result (λ version. next_version versions.old.now versions.old.pace ≡ Ok version) }
-        ensures err { IfErr result (λ fault. (fault ≡ SystemFault.NoMemory) ⊎ (next_version versions.old.now versions.old.pace ≡ Err fault)) }
-        ensures log { IfOk result (λ version. self.new ≡ record self.old { logs = with_log (record { job = job; ranges = ranges.now; begin = version }) self.old.logs }) }
-        ensures time { IfOk result (λ version. versions.new ≡ record versions.old { now = version }) }
+        ensures ok { IfOk result (λ version. next_version versions.old.now versions.old.pace
+            ≡ Ok version) }
+        ensures err { IfErr result (λ fault. (fault ≡ SystemFault.NoMemory)
+            ⊎ (next_version versions.old.now versions.old.pace ≡ Err fault)) }
+        ensures log { IfOk result
+            (λ version. self.new
+            ≡ record self.old {
+              logs = with_log (record { job = job; ranges = ranges.now; begin = version })
+                  self.old.logs;
+            }) }
+        ensures time { IfOk result
+            (λ version. versions.new ≡ record versions.old { now = version }) }
         ensures refused { OnErr result ((self.new ≡ self.old) × (versions.new ≡ versions.old)) }
     {
         let Some(version) = versions.next() else {

@@ -34,7 +34,9 @@ fn add_batch(
     entry: &Entry,
     ranges: &Ranges,
 ) -> Result<(), AllocError>
-    ensures { OnOk result (batches.new ≡ batches.old ++ with_batch entry.now.version (all_clipped ranges.now entry.now.muts) []) }
+    ensures { OnOk result
+        (batches.new ≡ batches.old
+        ++ with_batch entry.now.version (all_clipped ranges.now entry.now.muts) []) }
 {
     let muts = clip_all(alloc, entry.muts.as_slice(), ranges)?;
     if muts.is_empty() {

@@ -49,7 +49,8 @@ fn empty_db(alloc: Global, block: u32) -> Result<Db, Fail> {
 
 /// Whether no entry is past a version.
 fn none_past(history: &[Entry], version: u64) -> bool
-    ensures { result ≡ true → AllByRecursion (λ (entry : Entry). entry.version ≤ version) history.now }
+    ensures { result ≡ true
+        → AllByRecursion (λ (entry : Entry). entry.version ≤ version) history.now }
 {
     for entry in history {
         if entry.version > version {

@@ -25,7 +25,8 @@ pub fn version_taken(
     logs: &[JobLog],
     ops: &TxOps,
 ) -> Result<Option<u64>, CommitFault>
-    ensures { result ≡ version_taken versions.entry.now.now versions.entry.now.pace logs.now (writes_of ops.now) }
+    ensures { result ≡ version_taken versions.entry.now.now versions.entry.now.pace logs.now
+        (writes_of ops.now) }
 {
     if !ops.has_writes() {
         return Ok(None);
@@ -82,7 +83,8 @@ fn clipped_writes(ops: &[TxOp], ranges: &Ranges) -> u128
 /// Applies an entry to a store, and puts it at the end of the history that the store holds. Without
 /// memory the history is as it was, and the store holds it.
 pub fn put_entry(history: &mut History, store: &mut Store, entry: Entry) -> Result<(), AllocError>
-    requires past { AllByRecursion (λ (earlier : Entry). earlier.version < entry.version) history.old }
+    requires past { AllByRecursion (λ (earlier : Entry). earlier.version < entry.version)
+        history.old }
     requires oldest { store.old.oldest < entry.version }
     requires holds { Holds store.old (batches_of history.old) }
     ensures ok { OnOk result (history.new ≡ history.old ++ entry ∷ []) }

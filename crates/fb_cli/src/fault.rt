@@ -133,7 +133,8 @@ fn push_or_none(out: &mut Blob, number: Option<u64>) -> Result<(), AllocError>
 }
 
 fn push_not_restorable(out: &mut Blob, min: Option<u64>, max: Option<u64>) -> Result<(), AllocError>
-    ensures { IfOk result (λ _. out.new ≡ out.old ++ refusal_line (Some (Fault.NotRestorable min max))) }
+    ensures { IfOk result
+        (λ _. out.new ≡ out.old ++ refusal_line (Some (Fault.NotRestorable min max))) }
 {
     out.extend_from_slice(b"refused not-restorable ")?;
     push_or_none(out, min)?;
@@ -149,7 +150,8 @@ fn push_damaged(
     name: &Text,
     fault: &FileFault,
 ) -> Result<(), AllocError>
-    ensures { IfOk result (λ _. out.new ≡ out.old ++ refusal_line (Some (Fault.Damaged name.now fault.now))) }
+    ensures { IfOk result
+        (λ _. out.new ≡ out.old ++ refusal_line (Some (Fault.Damaged name.now fault.now))) }
 {
     out.extend_from_slice(b"refused damaged ")?;
     out.extend_from_slice(name.as_bytes())?;

@@ -34,7 +34,9 @@ pub fn replay<S: Source, V: Vault>(alloc: Global, source: &mut S, vault: V) -> E
         result.report
         result.fault }
     ensures status { result.status ≡ status_of result.fault }
-    ensures store { OwesStore (store_change (V.files vault) (V.files result.vault) (V.faults vault) (V.faults result.vault)) result.fault }
+    ensures store { OwesStore
+        (store_change (V.files vault) (V.files result.vault) (V.faults vault)
+        (V.faults result.vault)) result.fault }
 {
     match read_text(alloc, source) {
         Ok(workload) => play(alloc, &workload, vault),
@@ -44,7 +46,9 @@ pub fn replay<S: Source, V: Vault>(alloc: Global, source: &mut S, vault: V) -> E
 
 // The workload that a source's text says.
 fn read_text<S: Source>(alloc: Global, source: &mut S) -> Result<Workload, Fault>
-    ensures { ReadsText (stream_change (S.left source.old) (S.left source.new) (S.faults source.old) (S.faults source.new)) result }
+    ensures { ReadsText
+        (stream_change (S.left source.old) (S.left source.new) (S.faults source.old)
+        (S.faults source.new)) result }
 {
     let text = match read_all(alloc, source, MOST_BYTES) {
         Ok(text) => text,
@@ -79,11 +83,18 @@ pub fn refused<V: Vault>(fault: Fault, vault: V) -> Ended<V>
 fn play<V: Vault>(alloc: Global, workload: &Workload, vault: V) -> Ended<V>
     ensures fault { IsPlayed result.fault ⊎ (result.fault ≡ Some Fault.NoMemory) }
     ensures reported { IsSome result.report ↔ IsPlayed result.fault }
-    ensures run { IfSome result.report (IsRunReport workload.now (store_change (V.files vault) (V.files result.vault) (V.faults vault) (V.faults result.vault))) }
-    ensures front { LeavesFront workload.now (store_change (V.files vault) (V.files result.vault) (V.faults vault) (V.faults result.vault)) }
+    ensures run { IfSome result.report
+        (IsRunReport workload.now
+        (store_change (V.files vault) (V.files result.vault) (V.faults vault)
+        (V.faults result.vault))) }
+    ensures front { LeavesFront workload.now
+        (store_change (V.files vault) (V.files result.vault) (V.faults vault)
+        (V.faults result.vault)) }
     ensures last { IfSome result.report (λ report. result.fault ≡ fault_in report) }
     ensures status { result.status ≡ status_of result.fault }
-    ensures store { OwesStore (store_change (V.files vault) (V.files result.vault) (V.faults vault) (V.faults result.vault)) result.fault }
+    ensures store { OwesStore
+        (store_change (V.files vault) (V.files result.vault) (V.faults vault)
+        (V.faults result.vault)) result.fault }
 {
     faithful_law();
     let mut world = match World::open(alloc, workload, vault) {
@@ -119,10 +130,12 @@ fn make_steps<V: Vault>(
     world: &mut World<V>,
     schedule: &[ScheduleLine],
 ) -> Result<Seq<EventLine>, AllocError>
-    ensures run { IfOk result (λ lines. Tells world.old.workload world.old.state lines world.new.state) }
+    ensures run { IfOk result
+        (λ lines. Tells world.old.workload world.old.state lines world.new.state) }
     ensures lines { IfOk result (λ lines. schedule_of lines ≡ schedule.now) }
     ensures causes { IfOk result (λ lines. RoseInEach lines world.old.faults world.new.faults) }
-    ensures front { PlaysFront world.old.workload world.old.state schedule.now world.new.state world.old.faults world.new.faults }
+    ensures front { PlaysFront world.old.workload world.old.state schedule.now world.new.state
+        world.old.faults world.new.faults }
     ensures workload { world.new.workload ≡ world.old.workload }
 {
     let mut lines = Seq::new(alloc);
@@ -135,10 +148,13 @@ fn make_steps<V: Vault>(
 
 // Makes the step of one line of a schedule.
 fn make_step<V: Vault>(world: &mut World<V>, line: ScheduleLine) -> Result<EventLine, AllocError>
-    ensures step { IfOk result (λ told. TellsStep world.old.workload world.old.state told world.new.state) }
+    ensures step { IfOk result
+        (λ told. TellsStep world.old.workload world.old.state told world.new.state) }
     ensures line { IfOk result (λ told. told.line ≡ line) }
     ensures workload { world.new.workload ≡ world.old.workload }
-    ensures faults { IfOk result (λ told. Counts world.old.faults world.new.faults (fault_of told.answer ≡ Some Fault.VaultFault)) }
+    ensures faults { IfOk result
+        (λ told. Counts world.old.faults world.new.faults
+        (fault_of told.answer ≡ Some Fault.VaultFault)) }
     ensures starved { OnErr result (world.new.state ≡ world.old.state) }
     ensures later { world.old.faults ≤ world.new.faults }
 {
@@ -158,7 +174,8 @@ fn make_step<V: Vault>(world: &mut World<V>, line: ScheduleLine) -> Result<Event
 fn answer_of<V: Vault>(world: &mut World<V>, line: ScheduleLine) -> Result<Answer, StepFault>
     ensures step { Step world.old.workload world.old.state (event_of line) result world.new.state }
     ensures workload { world.new.workload ≡ world.old.workload }
-    ensures faults { Counts world.old.faults world.new.faults (IsErrOf result StepFault.VaultFault) }
+    ensures faults { Counts world.old.faults world.new.faults
+        (IsErrOf result StepFault.VaultFault) }
     ensures starved { IsErrOf result StepFault.NoMemory → world.new.state ≡ world.old.state }
 {
     world.step(&event_of(line))

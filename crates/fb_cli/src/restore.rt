@@ -16,9 +16,13 @@ use std::alloc::Global;
 
 /// Restores a version of a container, and tells its pairs.
 pub fn restore_words<V: Vault>(alloc: Global, vault: V, container: &Text, version: u64) -> Ended<V>
-    ensures restores { Restores container.now version (store_change (V.files vault) (V.files result.vault) (V.faults vault) (V.faults result.vault)) result.report result.fault }
+    ensures restores { Restores container.now version
+        (store_change (V.files vault) (V.files result.vault) (V.faults vault)
+        (V.faults result.vault)) result.report result.fault }
     ensures status { result.status ≡ status_of result.fault }
-    ensures store { OwesStore (store_change (V.files vault) (V.files result.vault) (V.faults vault) (V.faults result.vault)) result.fault }
+    ensures store { OwesStore
+        (store_change (V.files vault) (V.files result.vault) (V.faults vault)
+        (V.faults result.vault)) result.fault }
     ensures called { (files : List File) → V.files vault ≡ Some files →
         V.calls result.vault ≤ V.calls vault + most_calls container.now files version }
 {

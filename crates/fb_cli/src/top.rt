@@ -65,7 +65,9 @@ fn command<S: Source, V: Vault>(alloc: Global, words: &[Text], source: &mut S, v
         (store_change (V.files vault) (V.files result.vault) (V.faults vault) (V.faults result.vault))
         result.report
         result.fault }
-    ensures store { OwesStore (store_change (V.files vault) (V.files result.vault) (V.faults vault) (V.faults result.vault)) result.fault }
+    ensures store { OwesStore
+        (store_change (V.files vault) (V.files result.vault) (V.faults vault)
+        (V.faults result.vault)) result.fault }
 {
     if is_replay(words) {
         return replay(alloc, source, vault);
@@ -88,7 +90,8 @@ fn is_replay(words: &[Text]) -> bool
 // The container and the version that the words of a restore name.
 fn restore_asked(words: &[Text]) -> Option<(&Text, u64)>
     ensures some { IfSome result (λ asked. request_of words.now ≡ Restore asked.0.now asked.1) }
-    ensures none { result ≡ None → (request_of words.now ≡ Replay) ⊎ (request_of words.now ≡ Unknown) }
+    ensures none { result ≡ None → (request_of words.now ≡ Replay)
+        ⊎ (request_of words.now ≡ Unknown) }
 {
     match words {
         [word, container, version] => restore_of(word, container, version),
@@ -97,8 +100,10 @@ fn restore_asked(words: &[Text]) -> Option<(&Text, u64)>
 }
 
 fn restore_of<'a>(word: &Text, container: &'a Text, version: &Text) -> Option<(&'a Text, u64)>
-    ensures some { IfSome result (λ asked. request_of (word.now ∷ container.now ∷ version.now ∷ []) ≡ Restore asked.0.now asked.1) }
-    ensures none { result ≡ None → request_of (word.now ∷ container.now ∷ version.now ∷ []) ≡ Unknown }
+    ensures some { IfSome result (λ asked. request_of (word.now ∷ container.now ∷ version.now ∷ [])
+        ≡ Restore asked.0.now asked.1) }
+    ensures none { result ≡ None → request_of (word.now ∷ container.now ∷ version.now ∷ [])
+        ≡ Unknown }
 {
     if !fb_bytes::is_same(word.as_bytes(), b"restore") || !is_container_name(container.as_bytes()) {
         return None;

@@ -26,4 +26,6 @@ mutation_line (Atomic op key param) = line (word_of op ∷ printed key ∷ print
 
 -- an entry of the database of this name
 abbrev pub entry_lines : Bytes → Entry → Bytes
-entry_lines database entry = line (codes "entry" ∷ database ∷ decimal entry.version ∷ who_words entry.who) ++ flat_map mutation_line entry.muts
+entry_lines database entry =
+    line (codes "entry" ∷ database ∷ decimal entry.version ∷ who_words entry.who)
+    ++ flat_map mutation_line entry.muts

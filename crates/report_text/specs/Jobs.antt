@@ -2,7 +2,14 @@
 use Rattle.std.specs.Prelude.{ℕ, ◌+◌, List, [], ◌∷◌, ◌++◌, codes, decimal}
 use Rattle.fb_bytes.specs.Bytes.{Bytes}
 use Rattle.cluster_core.specs.declared.JobState.{JobState}
-use Rattle.cluster_core.specs.declared.JobState.TheVariants.{Submitted, Running, RunningDifferential, Completed, Aborted, Failed}
+use Rattle.cluster_core.specs.declared.JobState.TheVariants.{
+  Submitted,
+  Running,
+  RunningDifferential,
+  Completed,
+  Aborted,
+  Failed,
+}
 use Rattle.cluster_core.specs.Jobs.{JobTold}
 use Rattle.report_text.specs.Lines.{line}
 
@@ -17,7 +24,8 @@ state_word Failed = codes "failed"
 
 -- a hand job of this number and tag
 abbrev pub job_line : ℕ → Bytes → JobState → Bytes
-job_line number tag state = line (codes "job" ∷ decimal number ∷ tag ∷ codes "hand" ∷ state_word state ∷ [])
+job_line number tag state =
+    line (codes "job" ∷ decimal number ∷ tag ∷ codes "hand" ∷ state_word state ∷ [])
 
 -- the jobs' numbers count on from one
 abbrev pub job_lines : ℕ → List JobTold → Bytes

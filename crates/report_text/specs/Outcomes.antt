@@ -3,7 +3,15 @@ use Rattle.std.specs.Prelude.{ℕ, ◌+◌, List, [], ◌∷◌, ◌++◌, codes
 use Rattle.std.specs.List.{flat_map}
 use Rattle.fb_bytes.specs.Bytes.{Bytes}
 use Rattle.database.specs.declared.CommitFault.{CommitFault}
-use Rattle.database.specs.declared.CommitFault.TheVariants.{Outside, KeyTooLarge, ValueTooLarge, TooLarge, VersionsSpent, LogTooLarge, NoMemory}
+use Rattle.database.specs.declared.CommitFault.TheVariants.{
+  Outside,
+  KeyTooLarge,
+  ValueTooLarge,
+  TooLarge,
+  VersionsSpent,
+  LogTooLarge,
+  NoMemory,
+}
 use Rattle.client_core.specs.declared.Outcome.{Outcome}
 use Rattle.client_core.specs.declared.End.{End}
 use Rattle.client_core.specs.declared.End.TheVariants.{Commit, ReadOnly, Fault}
@@ -28,9 +36,11 @@ end_words (Fault fault) = fault_words fault
 -- a try of the client of this number
 abbrev pub client_line : ℕ → Outcome → Bytes
 client_line client outcome =
-    line (codes "client" ∷ decimal client ∷ codes "txn" ∷ decimal outcome.place ∷ codes "try" ∷ decimal outcome.attempt ∷ codes "read" ∷ decimal outcome.read ∷ end_words outcome.end)
+    line (codes "client" ∷ decimal client ∷ codes "txn" ∷ decimal outcome.place ∷ codes "try" ∷
+    decimal outcome.attempt ∷ codes "read" ∷ decimal outcome.read ∷ end_words outcome.end)
 
 -- the tries of clients, whose numbers count on from one
 abbrev pub client_lines : ℕ → List (List Outcome) → Bytes
 client_lines client [] = []
-client_lines client (outcomes ∷ others) = flat_map (client_line client) outcomes ++ client_lines (client + 1) others
+client_lines client (outcomes ∷ others) =
+    flat_map (client_line client) outcomes ++ client_lines (client + 1) others

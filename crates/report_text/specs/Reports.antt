@@ -16,7 +16,9 @@ use Rattle.report_text.specs.Restores.{restored_text}
 
 -- what a brief report leaves out: the clients' tries and the entries of both databases
 abbrev pub details : List (List Outcome) → List Entry → List Entry → Bytes
-details outcomes src dst = client_lines 1 outcomes ++ flat_map (entry_lines (codes "src")) src ++ flat_map (entry_lines (codes "dst")) dst
+details outcomes src dst =
+    client_lines 1 outcomes ++ flat_map (entry_lines (codes "src")) src
+    ++ flat_map (entry_lines (codes "dst")) dst
 
 -- the newest version
 abbrev pub end_line : ℕ → Bytes
@@ -24,7 +26,9 @@ end_line version = line (codes "end" ∷ decimal version ∷ [])
 
 -- The events come first, the jobs and the newest version last.
 abbrev pub run_text : Bool → RunReport → Bytes
-run_text brief run = flat_map event_line run.lines ++ (if brief then [] else details run.outcomes run.src run.dst) ++ job_lines 1 run.jobs ++ end_line run.end
+run_text brief run =
+    flat_map event_line run.lines ++ (if brief then [] else details run.outcomes run.src run.dst)
+    ++ job_lines 1 run.jobs ++ end_line run.end
 
 abbrev pub report_text : Bool → Report → Bytes
 report_text brief (Run run) = run_text brief run

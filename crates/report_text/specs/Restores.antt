@@ -11,4 +11,6 @@ abbrev pub pair_line : Pair → Bytes
 pair_line pair = line (codes "pair" ∷ printed pair.key ∷ printed pair.value ∷ [])
 
 abbrev pub restored_text : Restored → Bytes
-restored_text told = line (codes "version" ∷ decimal told.version ∷ []) ++ (flat_map pair_line told.pairs ++ line (codes "pairs" ∷ decimal (length told.pairs) ∷ []))
+restored_text told =
+    line (codes "version" ∷ decimal told.version ∷ [])
+    ++ (flat_map pair_line told.pairs ++ line (codes "pairs" ∷ decimal (length told.pairs) ∷ []))

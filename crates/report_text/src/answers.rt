@@ -42,7 +42,8 @@ fn put_answer(alloc: Global, out: &mut Blob, answer: &Answer) -> Result<(), Allo
 }
 
 fn put_refused(alloc: Global, out: &mut Blob, refusal: &Refusal) -> Result<(), AllocError>
-    ensures { OnOk result (out.new ≡ out.old ++ behind (codes "refused" ∷ refusal_words refusal.now)) }
+    ensures { OnOk result
+        (out.new ≡ out.old ++ behind (codes "refused" ∷ refusal_words refusal.now)) }
 {
     put(out, b" refused")?;
     put_refusal(alloc, out, refusal)

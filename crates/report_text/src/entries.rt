@@ -89,7 +89,8 @@ pub fn put_pair(
     first: &Blob,
     second: &Blob,
 ) -> Result<(), AllocError>
-    ensures { OnOk result (out.new ≡ out.old ++ line (word.now ∷ printed first.now ∷ printed second.now ∷ [])) }
+    ensures { OnOk result
+        (out.new ≡ out.old ++ line (word.now ∷ printed first.now ∷ printed second.now ∷ [])) }
 {
     put(out, word)?;
     put(out, b" ")?;

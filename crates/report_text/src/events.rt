@@ -5,9 +5,9 @@ ghost use Rattle.std.specs.List.{flat_map};
 ghost use Rattle.report_text.specs.Lines.{behind, line};
 ghost use Rattle.report_text.specs.Events.{command_word, command_words, reply_words, event_line};
 
+use crate::EventLine;
 use crate::answers::put_reply;
 use crate::words::{put, put_field};
-use crate::EventLine;
 use cluster_core::{Answer, StepFault};
 use fb_bytes::Blob;
 use std::alloc::{AllocError, Global};
@@ -40,7 +40,8 @@ fn put_turn(
     client: u32,
     answer: &Result<Answer, StepFault>,
 ) -> Result<(), AllocError>
-    ensures { OnOk result (out.new ≡ out.old ++ word.now ++ decimal client ++ behind (codes "->" ∷ reply_words answer.now)) }
+    ensures { OnOk result (out.new ≡ out.old ++ word.now ++ decimal client
+        ++ behind (codes "->" ∷ reply_words answer.now)) }
 {
     put_field(out, word, client)?;
     put_answered(alloc, out, answer)
@@ -52,7 +53,9 @@ fn put_step(
     command: Option<CommandKind>,
     answer: &Result<Answer, StepFault>,
 ) -> Result<(), AllocError>
-    ensures { OnOk result (out.new ≡ out.old ++ line (codes "op" ∷ (command_words command ++ codes "->" ∷ reply_words answer.now))) }
+    ensures { OnOk result
+        (out.new ≡ out.old
+        ++ line (codes "op" ∷ (command_words command ++ codes "->" ∷ reply_words answer.now))) }
 {
     put(out, b"op")?;
     match command {
@@ -67,7 +70,8 @@ fn put_command(
     command: CommandKind,
     answer: &Result<Answer, StepFault>,
 ) -> Result<(), AllocError>
-    ensures { OnOk result (out.new ≡ out.old ++ behind (command_word command ∷ codes "->" ∷ reply_words answer.now)) }
+    ensures { OnOk result
+        (out.new ≡ out.old ++ behind (command_word command ∷ codes "->" ∷ reply_words answer.now)) }
 {
     put(out, b" ")?;
     put(out, command.word().as_bytes())?;

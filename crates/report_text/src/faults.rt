@@ -27,7 +27,8 @@ pub fn put_file_fault(alloc: Global, out: &mut Blob, fault: &FileFault) -> Resul
 }
 
 fn put_overlap(alloc: Global, out: &mut Blob, key: &Blob) -> Result<(), AllocError>
-    ensures { OnOk result (out.new ≡ out.old ++ behind (file_fault_words (FileFault.Overlap key.now))) }
+    ensures { OnOk result
+        (out.new ≡ out.old ++ behind (file_fault_words (FileFault.Overlap key.now))) }
 {
     put(out, b" overlap ")?;
     put_bytes(alloc, out, key.as_slice())?;

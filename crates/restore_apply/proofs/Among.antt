@@ -15,7 +15,6 @@ use Rattle.restore_apply.specs.Pieces.{Piece, since, AreLine, is_older, older_ha
 
 -- ---- a search by halving
 
-
 one_first : (n : ℕ) → suc n ≡ 1 + n
 one_first n = omega arith
 

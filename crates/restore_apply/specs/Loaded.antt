@@ -19,10 +19,13 @@ abbrev pub file_with : List LoadedFile → Bytes → Option LoadedFile
 file_with [] key = None
 file_with (file ∷ files) key = if holds (range_of file) key then Some file else file_with files key
 
--- What the links' batches with low <= version < high leave at a key, each link giving its own versions. A value that an operation appends to has the link's limit.
+-- What the links' batches with low <= version < high leave at a key, each link giving its own
+-- versions. A value that an operation appends to has the link's limit.
 abbrev pub replayed_links : List LoadedLink → ℕ → ℕ → Bytes → Option Bytes → Option Bytes
 replayed_links [] low high key old = old
-replayed_links (link ∷ links) low high key old = replayed_links links low high key (replayed link.limit link.chunk.batches (max link.from low) (min link.to high) key old)
+replayed_links (link ∷ links) low high key old =
+    replayed_links links low high key
+    (replayed link.limit link.chunk.batches (max link.from low) (min link.to high) key old)
 
 -- the value of a key at a version: that in its file, and then the batches since
 abbrev pub loaded_at : Loaded → ℕ → Bytes → Option Bytes

@@ -1,5 +1,22 @@
 -- Ranges that overlap, in the order of their begin keys.
-use Rattle.std.specs.Prelude.{◌≡◌, ℕ, ◌+◌, Bool, true, false, not, ◌&&◌, ◌||◌, List, [], ◌∷◌, Option, Some, None, if◌then◌else◌}
+use Rattle.std.specs.Prelude.{
+  ◌≡◌,
+  ℕ,
+  ◌+◌,
+  Bool,
+  true,
+  false,
+  not,
+  ◌&&◌,
+  ◌||◌,
+  List,
+  [],
+  ◌∷◌,
+  Option,
+  Some,
+  None,
+  if◌then◌else◌,
+}
 use Rattle.std.specs.List.{AllByRecursion}
 use Rattle.fb_bytes.specs.Bytes.{is_below}
 use Rattle.fb_bytes.specs.declared.KeyRange.{KeyRange}
@@ -44,7 +61,8 @@ further range last = if is_backwards range then last else Some range
 -- the first that overlaps one before it
 abbrev pub overlapping : List At → List At → Option At
 overlapping before [] = None
-overlapping before (x ∷ xs) = if overlaps_some x.range before then Some x else overlapping (x ∷ before) xs
+overlapping before (x ∷ xs) =
+    if overlaps_some x.range before then Some x else overlapping (x ∷ before) xs
 
 -- in the order of the begin keys, the first file whose range overlaps that of one before it
 abbrev pub first_overlap : List LoadedFile → Option At

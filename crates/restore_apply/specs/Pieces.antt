@@ -1,5 +1,25 @@
 -- The ranges of the files in the order of their keys, and the batches that each of them waits for.
-use Rattle.std.specs.Prelude.{◌≡◌, ℕ, ◌+◌, max, min, Bool, false, ◌&&◌, ◌||◌, List, [], ◌∷◌, ◌++◌, Option, Some, None, nat_lt, option_map, if◌then◌else◌}
+use Rattle.std.specs.Prelude.{
+  ◌≡◌,
+  ℕ,
+  ◌+◌,
+  max,
+  min,
+  Bool,
+  false,
+  ◌&&◌,
+  ◌||◌,
+  List,
+  [],
+  ◌∷◌,
+  ◌++◌,
+  Option,
+  Some,
+  None,
+  nat_lt,
+  option_map,
+  if◌then◌else◌,
+}
 use Rattle.std.specs.List.{AllByRecursion, slice_get}
 use Rattle.fb_bytes.specs.Bytes.{Bytes, is_below}
 use Rattle.fb_bytes.specs.declared.KeyRange.{KeyRange}
@@ -29,7 +49,8 @@ AreLine (piece ∷ pieces) =
 -- the pieces of files: their ranges that have keys, in order
 pub record ArePiecesOf (files : List LoadedFile) (pieces : List Piece) : Type 0 where
   pub line : AreLine pieces
-  pub tell : (key : Bytes) → since pieces key ≡ option_map (λ file. file.version) (file_with files key)
+  pub tell : (key : Bytes)
+      → since pieces key ≡ option_map (λ file. file.version) (file_with files key)
 
 -- the piece of a file at a place
 abbrev pub piece_of : KeyRange → Option LoadedFile → List Piece
@@ -79,7 +100,8 @@ abbrev pub gives : LoadedLink → ℕ → ℕ → Bool
 gives link upto version = is_within link.from (min link.to (upto + 1)) version
 
 -- what a link's batches up to the last leave at a key that has a value since a version
-abbrev pub batches_since : Option ℕ → LoadedLink → List Batch → ℕ → Bytes → Option Bytes → Option Bytes
+abbrev pub batches_since : Option ℕ → LoadedLink → List Batch → ℕ → Bytes → Option Bytes
+    → Option Bytes
 batches_since since link [] upto key old = old
 batches_since since link (batch ∷ batches) upto key old =
     batches_since since link batches upto key

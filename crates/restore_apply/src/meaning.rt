@@ -42,8 +42,11 @@ impl<T: Drop> From<AllocFailed<T>> for LoadFault {
 /// The pairs that the files say at a version.
 pub fn whole(alloc: Global, set: &Loaded, version: u64) -> Result<Pairs, LoadFault>
     ensures apart { IfOk result (λ _. spec.first_overlap set.now.files ≡ None) }
-    ensures pairs { IfOk result (λ pairs. (key : Bytes) → value_of pairs key ≡ loaded_at set.now version key) }
-    ensures err { IfErr result (λ fault. (fault ≡ faults.NoMemory) ⊎ ((at : spec.At) × (spec.first_overlap set.now.files ≡ Some at) × (fault ≡ faults.Overlap at.range.begin))) }
+    ensures pairs { IfOk result (λ pairs. (key : Bytes)
+        → value_of pairs key ≡ loaded_at set.now version key) }
+    ensures err { IfErr result (λ fault. (fault ≡ faults.NoMemory)
+        ⊎ ((at : spec.At) × (spec.first_overlap set.now.files ≡ Some at)
+        × (fault ≡ faults.Overlap at.range.begin))) }
 {
     let order = ordered(alloc, set.files.as_slice())?;
     if let Some(at) = first_overlap(&order)? {
@@ -57,7 +60,8 @@ pub fn whole(alloc: Global, set: &Loaded, version: u64) -> Result<Pairs, LoadFau
 /// The pairs that files say at a version, no two of which overlap.
 pub fn pairs_at(alloc: Global, set: &Loaded, version: u64) -> Result<Pairs, AllocError>
     requires { spec.first_overlap set.now.files ≡ None }
-    ensures { IfOk result (λ pairs. (key : Bytes) → value_of pairs key ≡ loaded_at set.now version key) }
+    ensures { IfOk result (λ pairs. (key : Bytes)
+        → value_of pairs key ≡ loaded_at set.now version key) }
 {
     let order = ordered(alloc, set.files.as_slice())?;
     pairs_in(alloc, set, order, version)
@@ -67,7 +71,8 @@ pub fn pairs_at(alloc: Global, set: &Loaded, version: u64) -> Result<Pairs, Allo
 fn pairs_in(alloc: Global, set: &Loaded, order: Vec<At>, version: u64) -> Result<Pairs, AllocError>
     requires order { order.items ≡ spec.in_order (spec.numbered 0 set.now.files) }
     requires apart { spec.first_overlap set.now.files ≡ None }
-    ensures { IfOk result (λ pairs. (key : Bytes) → value_of pairs key ≡ loaded_at set.now version key) }
+    ensures { IfOk result (λ pairs. (key : Bytes)
+        → value_of pairs key ≡ loaded_at set.now version key) }
 {
     let files = set.files.as_slice();
     let pieces = pieces_of(alloc, files, order)?;

@@ -69,7 +69,9 @@ pub(crate) fn clear_older(
     end: &Blob,
 ) -> Result<(), AllocError>
     requires { spec.AreLine pieces.now }
-    ensures { OnOk result (Leaves (λ key old. if spec.is_older (spec.since pieces.now key) version && holds (effects.range_of begin.now end.now) key then None else old) table.old table.new) }
+    ensures { OnOk result
+        (Leaves (λ key old. if spec.is_older (spec.since pieces.now key) version
+        && holds (effects.range_of begin.now end.now) key then None else old) table.old table.new) }
 {
     let pieces = among(pieces, begin.as_slice(), end.as_slice());
     clear_each(table, pieces, version, begin, end)
@@ -82,7 +84,9 @@ fn clear_each(
     begin: &Blob,
     end: &Blob,
 ) -> Result<(), AllocError>
-    ensures { OnOk result (Leaves (spec.cleared version (effects.range_of begin.now end.now) pieces.now) table.old table.new) }
+    ensures { OnOk result
+        (Leaves (spec.cleared version (effects.range_of begin.now end.now) pieces.now) table.old
+        table.new) }
 {
     for piece in pieces {
         clear_in(table, piece, version, begin, end)?;
@@ -97,7 +101,9 @@ fn clear_in(
     begin: &Blob,
     end: &Blob,
 ) -> Result<(), AllocError>
-    ensures { OnOk result (Leaves (λ key old. if (nat_lt piece.now.version version && holds piece.now.range key) && holds (effects.range_of begin.now end.now) key then None else old) table.old table.new) }
+    ensures { OnOk result
+        (Leaves (λ key old. if (nat_lt piece.now.version version && holds piece.now.range key)
+        && holds (effects.range_of begin.now end.now) key then None else old) table.old table.new) }
 {
     if piece.version >= version {
         return Ok(());
@@ -130,7 +136,9 @@ fn earlier<'a>(a: &'a Blob, b: &'a Blob) -> &'a Blob
 // The pieces that have keys of the range.
 fn among<'a>(pieces: &'a [Piece], begin: &[u8], end: &[u8]) -> &'a [Piece]
     requires { spec.AreLine pieces.now }
-    ensures { (version : ℕ) (key : Bytes) → holds (effects.range_of begin.now end.now) key ≡ true → spec.older_has version result.now key ≡ spec.is_older (spec.since pieces.now key) version }
+    ensures { (version : ℕ) (key : Bytes) → holds (effects.range_of begin.now end.now) key ≡ true
+        → spec.older_has version result.now key
+        ≡ spec.is_older (spec.since pieces.now key) version }
 {
     let rest = &pieces[passed(pieces, begin)..];
     &rest[..begun(rest, end)]
@@ -139,7 +147,8 @@ fn among<'a>(pieces: &'a [Piece], begin: &[u8], end: &[u8]) -> &'a [Piece]
 // How many pieces at the front the key is past.
 fn passed(pieces: &[Piece], key: &[u8]) -> usize
     requires { spec.AreLine pieces.now }
-    ensures count { result ≡ prefix_len (λ piece. not (bytes.is_below key.now piece.range.end)) pieces.now }
+    ensures count { result
+        ≡ prefix_len (λ piece. not (bytes.is_below key.now piece.range.end)) pieces.now }
     ensures within { result ≤ length pieces.now }
 {
     pieces.partition_point(|piece| !is_below(key, piece.range.end.as_slice()))
@@ -148,7 +157,8 @@ fn passed(pieces: &[Piece], key: &[u8]) -> usize
 // How many pieces at the front begin below the key.
 fn begun(pieces: &[Piece], key: &[u8]) -> usize
     requires { spec.AreLine pieces.now }
-    ensures count { result ≡ prefix_len (λ piece. bytes.is_below piece.range.begin key.now) pieces.now }
+    ensures count { result
+        ≡ prefix_len (λ piece. bytes.is_below piece.range.begin key.now) pieces.now }
     ensures within { result ≤ length pieces.now }
 {
     pieces.partition_point(|piece| is_below(piece.range.begin.as_slice(), key))

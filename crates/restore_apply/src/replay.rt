@@ -25,7 +25,9 @@ pub(crate) fn replay(
     upto: u64,
 ) -> Result<(), AllocError>
     requires { spec.AreLine pieces.now }
-    ensures { OnOk result (Leaves (λ key. spec.links_since (spec.since pieces.now key) links.now upto key) table.old table.new) }
+    ensures { OnOk result
+        (Leaves (λ key. spec.links_since (spec.since pieces.now key) links.now upto key) table.old
+        table.new) }
 {
     for link in links {
         replay_link(alloc, table, pieces, link, upto)?;
@@ -41,7 +43,10 @@ fn replay_link(
     upto: u64,
 ) -> Result<(), AllocError>
     requires { spec.AreLine pieces.now }
-    ensures { OnOk result (Leaves (λ key. spec.batches_since (spec.since pieces.now key) link.now link.now.chunk.batches upto key) table.old table.new) }
+    ensures { OnOk result
+        (Leaves (λ key.
+        spec.batches_since (spec.since pieces.now key) link.now link.now.chunk.batches upto
+        key) table.old table.new) }
 {
     for batch in link.chunk.batches.as_slice() {
         replay_batch(alloc, table, pieces, link, batch, upto)?;
@@ -58,7 +63,10 @@ fn replay_batch(
     upto: u64,
 ) -> Result<(), AllocError>
     requires { spec.AreLine pieces.now }
-    ensures { OnOk result (Leaves (λ key old. if spec.is_due (spec.since pieces.now key) link.now upto batch.now.version then effects link.now.limit batch.now.muts key old else old) table.old table.new) }
+    ensures { OnOk result
+        (Leaves (λ key old.
+        if spec.is_due (spec.since pieces.now key) link.now upto batch.now.version
+        then effects link.now.limit batch.now.muts key old else old) table.old table.new) }
 {
     if !gives(link, upto, batch.version) {
         return Ok(());
@@ -82,7 +90,10 @@ fn make_all(
     limit: usize,
 ) -> Result<(), AllocError>
     requires { spec.AreLine pieces.now }
-    ensures { OnOk result (Leaves (λ key. spec.effects_if (spec.is_older (spec.since pieces.now key) batch.now.version) limit batch.now.muts key) table.old table.new) }
+    ensures { OnOk result
+        (Leaves (λ key.
+        spec.effects_if (spec.is_older (spec.since pieces.now key) batch.now.version) limit
+        batch.now.muts key) table.old table.new) }
 {
     for mutation in batch.muts.as_slice() {
         make(alloc, table, pieces, batch.version, mutation, limit)?;
@@ -99,7 +110,9 @@ fn make(
     limit: usize,
 ) -> Result<(), AllocError>
     requires { spec.AreLine pieces.now }
-    ensures { OnOk result (Leaves (λ key old. if spec.is_older (spec.since pieces.now key) version then effect limit mutation.now key old else old) table.old table.new) }
+    ensures { OnOk result
+        (Leaves (λ key old. if spec.is_older (spec.since pieces.now key) version
+        then effect limit mutation.now key old else old) table.old table.new) }
 {
     match mutation {
         Mutation::Set { key, value } => set(table, pieces, version, key, value),
@@ -122,7 +135,9 @@ fn set(
     value: &Blob,
 ) -> Result<(), AllocError>
     requires { spec.AreLine pieces.now }
-    ensures { OnOk result (Leaves (λ at old. if spec.is_older (spec.since pieces.now at) version then (if is_same key.now at then Some value.now else old) else old) table.old table.new) }
+    ensures { OnOk result
+        (Leaves (λ at old. if spec.is_older (spec.since pieces.now at) version
+        then (if is_same key.now at then Some value.now else old) else old) table.old table.new) }
 {
     if !is_older(pieces, key.as_slice(), version) {
         return Ok(());
@@ -140,7 +155,9 @@ fn operate(
     param: &Blob,
     limit: usize,
 ) -> Result<(), AllocError>
-    ensures { OnOk result (Leaves (λ at old. if is_same key.now at then operation op old param.now limit else old) table.old table.new) }
+    ensures { OnOk result
+        (Leaves (λ at old. if is_same key.now at then operation op old param.now limit
+        else old) table.old table.new) }
 {
     let left = operated(alloc, table, op, key, param, limit)?;
     write(table, key, left)

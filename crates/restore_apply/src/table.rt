@@ -41,7 +41,10 @@ fn put_pair(
     file: &LoadedFile,
     pair: &Pair,
 ) -> Result<(), AllocError>
-    ensures { OnOk result (Leaves (λ key old. if holds (loaded.range_of file.now) pair.now.key then (if is_same pair.now.key key then Some pair.now.value else old) else old) table.old table.new) }
+    ensures { OnOk result
+        (Leaves (λ key old. if holds (loaded.range_of file.now) pair.now.key
+        then (if is_same pair.now.key key then Some pair.now.value else old)
+        else old) table.old table.new) }
 {
     let key = pair.key.as_slice();
     if is_below(key, file.body.begin.as_slice()) || !is_below(key, file.body.end.as_slice()) {
@@ -67,7 +70,8 @@ pub(crate) fn write(
     key: &Blob,
     value: Option<Blob>,
 ) -> Result<(), AllocError>
-    ensures { OnOk result (Leaves (λ at old. if is_same key.now at then value else old) table.old table.new) }
+    ensures { OnOk result
+        (Leaves (λ at old. if is_same key.now at then value else old) table.old table.new) }
 {
     match value {
         Some(value) => put(table, key, value),
@@ -79,7 +83,8 @@ pub(crate) fn write(
 }
 
 fn put(table: &mut BTreeMap<Blob, Blob>, key: &Blob, value: Blob) -> Result<(), AllocError>
-    ensures { OnOk result (Leaves (λ at old. if is_same key.now at then Some value else old) table.old table.new) }
+    ensures { OnOk result
+        (Leaves (λ at old. if is_same key.now at then Some value else old) table.old table.new) }
 {
     let key = key.copy()?;
     table.insert(key, value)?;
@@ -92,7 +97,9 @@ pub(crate) fn clear(
     begin: &Blob,
     end: &Blob,
 ) -> Result<(), AllocError>
-    ensures { OnOk result (Leaves (λ key old. if holds (range_of begin.now end.now) key then None else old) table.old table.new) }
+    ensures { OnOk result
+        (Leaves (λ key old. if holds (range_of begin.now end.now) key then None
+        else old) table.old table.new) }
 {
     while let Some(key) = first_in(table, begin, end)? {
         table.remove(&key);

@@ -17,7 +17,8 @@ use Rattle.restore_apply.specs.Loaded.{loaded_at}
 use Rattle.restore_read.specs.Reading.{loaded_of}
 
 -- the container's files in the store have a meaning at the version, and this is it
-pub record Means (container : Bytes) (files : List File) (version : ℕ) (state : Bytes → Option Bytes) : Type 0 where
+pub record Means (container : Bytes) (files : List File) (version : ℕ) (state : Bytes
+    → Option Bytes) : Type 0 where
   pub folder : Folder
   pub decoded : folder_in file_grammars container files ≡ Some folder
   pub meaning : Bytes → Option Bytes
@@ -25,15 +26,25 @@ pub record Means (container : Bytes) (files : List File) (version : ℕ) (state 
   pub same : (key : Bytes) → state key ≡ meaning key
 
 -- something is loaded, and says that
-pub record Loads (container : Bytes) (files : List File) (version : ℕ) (state : Bytes → Option Bytes) : Type 0 where
+pub record Loads (container : Bytes) (files : List File) (version : ℕ) (state : Bytes
+    → Option Bytes) : Type 0 where
   pub set : Loaded
   pub is : loaded_of (inside container files) version ≡ Ok set
   pub same : (key : Bytes) → loaded_at set version key ≡ state key
 
 pub record RestoreLaw : Type 0 where
   -- what is loaded for a version says what the container means
-  pub meant : (container : Bytes) (files : List File) (version : ℕ) (set : Loaded) → AreFiles files → loaded_of (inside container files) version ≡ Ok set → Means container files version (loaded_at set version)
-  -- where the container has a meaning at a version, and its other property is in its grammar, it is loaded
-  pub loads : (container : Bytes) (files : List File) (folder : Folder) (version : ℕ) (meaning : Bytes → Option Bytes) (number : Option ℕ) → AreFiles files → folder_in file_grammars container files ≡ Some folder → means folder version ≡ Some meaning → property_in (file_of (inside container files) expired_text) ≡ Some number → Loads container files version meaning
+  pub meant : (container : Bytes) (files : List File) (version : ℕ) (set : Loaded) → AreFiles files
+      → loaded_of (inside container files) version ≡ Ok set
+      → Means container files version (loaded_at set version)
+  -- where the container has a meaning at a version, and its other property is in its grammar, it is
+  -- loaded
+  pub loads : (container : Bytes) (files : List File) (folder : Folder) (version : ℕ)
+      (meaning : Bytes → Option Bytes) (number : Option ℕ) → AreFiles files
+      → folder_in file_grammars container files ≡ Some folder → means folder version ≡ Some meaning
+      → property_in (file_of (inside container files) expired_text) ≡ Some number
+      → Loads container files version meaning
   -- each version that a faithful container advertises is loaded, and says what its source had
-  pub faithful : (s : Source) (container : Bytes) (files : List File) (version : ℕ) → AreFiles files → (h : IsFaithfulStore file_grammars s container files) → is_advertised h.folder version ≡ true → Loads container files version (true_value s version)
+  pub faithful : (s : Source) (container : Bytes) (files : List File) (version : ℕ) → AreFiles files
+      → (h : IsFaithfulStore file_grammars s container files) → is_advertised h.folder version
+      ≡ true → Loads container files version (true_value s version)

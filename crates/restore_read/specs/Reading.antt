@@ -1,5 +1,21 @@
 -- What a container's files say for a version, or the first fault.
-use Rattle.std.specs.Prelude.{ℕ, ◌+◌, List, [], ◌∷◌, length, Option, Some, None, Result, Ok, Err, ok_or, unwrap_or, slice_get}
+use Rattle.std.specs.Prelude.{
+  ℕ,
+  ◌+◌,
+  List,
+  [],
+  ◌∷◌,
+  length,
+  Option,
+  Some,
+  None,
+  Result,
+  Ok,
+  Err,
+  ok_or,
+  unwrap_or,
+  slice_get,
+}
 use Rattle.fb_bytes.specs.Bytes.{Bytes}
 use Rattle.fb_outside.specs.Files.{file_of}
 use Rattle.fb_outside.specs.declared.File.{File}
@@ -51,7 +67,12 @@ range_at files name = do
 abbrev pub link_by : Link → Bytes → Name → Result LoadedLink ViewFault
 link_by link bytes (names.Log begin end ticket block) = do
   batches ← in_file (λ fault. file_faults.Log fault) link.name (logs.read block begin end bytes)
-  Ok (record { from = link.from; to = link.to; limit = limit_of block; chunk = record { begin = begin; end = end; batches = batches } })
+  Ok (record {
+    from = link.from;
+    to = link.to;
+    limit = limit_of block;
+    chunk = record { begin = begin; end = end; batches = batches };
+  })
 link_by link bytes (names.Range snapshot version ticket block) = Err (faults.Missing link.name)
 link_by link bytes (names.Manifest begin end size ticket) = Err (faults.Missing link.name)
 link_by link bytes names.Unreliable = Err (faults.Missing link.name)
@@ -67,7 +88,9 @@ link_at files link = do
 -- the files where no two overlap, else the later one of the first overlap
 abbrev pub apart_or : List Bytes → List LoadedFile → Option At → Result (List LoadedFile) ViewFault
 apart_or names files None = Ok files
-apart_or names files (Some at) = Err (faults.Damaged (unwrap_or (slice_get names at.place) []) (file_faults.Overlap at.range.begin))
+apart_or names files (Some at) =
+    Err (faults.Damaged (unwrap_or (slice_get names at.place) [])
+    (file_faults.Overlap at.range.begin))
 
 -- range files in the order of their names, each read, and then tested for overlaps
 abbrev pub files_at : List File → List Bytes → Result (List LoadedFile) ViewFault
@@ -75,7 +98,9 @@ files_at files names = do
   loaded ← each_or (range_at files) names
   apart_or names loaded (first_overlap loaded)
 
--- What is loaded for a version of a container with these files, or the first fault: that of its set, of a range file in the manifest's order, of an overlap in the order of begin keys, of a link's log file in the chain's order.
+-- What is loaded for a version of a container with these files, or the first fault: that of its
+-- set, of a range file in the manifest's order, of an overlap in the order of begin keys, of a
+-- link's log file in the chain's order.
 abbrev pub loaded_of : List File → ℕ → Result Loaded ViewFault
 loaded_of files version = do
   set ← set_of files version

@@ -27,10 +27,13 @@ pub(crate) fn get_links<V: Vault>(
     container: &Text,
     links: &Links,
 ) -> Result<Seq<LoadedLink>, ViewFault>
-    ensures ok { IfOk result (λ loaded. (files : List File) → V.files vault.old ≡ Some files → spec.each_or (spec.link_at (inside container.now files)) links.now ≡ Ok loaded) }
-    ensures err { IfErr result (λ fault. (files : List File) → V.files vault.old ≡ Some files → Fails fault (spec.each_or (spec.link_at (inside container.now files)) links.now)) }
+    ensures ok { IfOk result (λ loaded. (files : List File) → V.files vault.old ≡ Some files
+        → spec.each_or (spec.link_at (inside container.now files)) links.now ≡ Ok loaded) }
+    ensures err { IfErr result (λ fault. (files : List File) → V.files vault.old ≡ Some files
+        → Fails fault (spec.each_or (spec.link_at (inside container.now files)) links.now)) }
     ensures same { V.files vault.new ≡ V.files vault.old }
-    ensures count { Counts (V.faults vault.old) (V.faults vault.new) (IsErrOf result ViewFault.VaultFault) }
+    ensures count { Counts (V.faults vault.old) (V.faults vault.new)
+        (IsErrOf result ViewFault.VaultFault) }
     ensures called { V.calls vault.new ≤ V.calls vault.old + length links.now }
 {
     let mut loaded = Seq::new(alloc);
@@ -51,10 +54,13 @@ fn get_link<V: Vault>(
     container: &Text,
     link: &Link,
 ) -> Result<LoadedLink, ViewFault>
-    ensures ok { IfOk result (λ loaded. (files : List File) → V.files vault.old ≡ Some files → spec.link_at (inside container.now files) link.now ≡ Ok loaded) }
-    ensures err { IfErr result (λ fault. (files : List File) → V.files vault.old ≡ Some files → Fails fault (spec.link_at (inside container.now files) link.now)) }
+    ensures ok { IfOk result (λ loaded. (files : List File) → V.files vault.old ≡ Some files
+        → spec.link_at (inside container.now files) link.now ≡ Ok loaded) }
+    ensures err { IfErr result (λ fault. (files : List File) → V.files vault.old ≡ Some files
+        → Fails fault (spec.link_at (inside container.now files) link.now)) }
     ensures same { V.files vault.new ≡ V.files vault.old }
-    ensures count { Counts (V.faults vault.old) (V.faults vault.new) (IsErrOf result ViewFault.VaultFault) }
+    ensures count { Counts (V.faults vault.old) (V.faults vault.new)
+        (IsErrOf result ViewFault.VaultFault) }
     ensures called { V.calls vault.new ≤ V.calls vault.old + 1 }
 {
     let bytes = get_file(alloc, vault, container, &link.name)?;
@@ -63,8 +69,10 @@ fn get_link<V: Vault>(
 
 // What the bytes of a link's log file say.
 fn read_link(alloc: Global, link: &Link, bytes: &[u8]) -> Result<LoadedLink, ViewFault>
-    ensures ok { IfOk result (λ loaded. spec.link_by link.now bytes.now (name_of link.now.name) ≡ Ok loaded) }
-    ensures err { IfErr result (λ fault. (fault ≡ faults.NoMemory) ⊎ (spec.link_by link.now bytes.now (name_of link.now.name) ≡ Err fault)) }
+    ensures ok { IfOk result (λ loaded. spec.link_by link.now bytes.now (name_of link.now.name)
+        ≡ Ok loaded) }
+    ensures err { IfErr result (λ fault. (fault ≡ faults.NoMemory)
+        ⊎ (spec.link_by link.now bytes.now (name_of link.now.name) ≡ Err fault)) }
 {
     let Name::Log {
         begin,

@@ -25,11 +25,14 @@ pub(crate) fn get_ranges<V: Vault>(
     container: &Text,
     names: &Names,
 ) -> Result<Seq<LoadedFile>, ViewFault>
-    ensures ok { IfOk result (λ loaded. (files : List File) → V.files vault.old ≡ Some files → spec.files_at (inside container.now files) names.now ≡ Ok loaded) }
+    ensures ok { IfOk result (λ loaded. (files : List File) → V.files vault.old ≡ Some files
+        → spec.files_at (inside container.now files) names.now ≡ Ok loaded) }
     ensures apart { IfOk result (λ loaded. first_overlap loaded ≡ None) }
-    ensures err { IfErr result (λ fault. (files : List File) → V.files vault.old ≡ Some files → Fails fault (spec.files_at (inside container.now files) names.now)) }
+    ensures err { IfErr result (λ fault. (files : List File) → V.files vault.old ≡ Some files
+        → Fails fault (spec.files_at (inside container.now files) names.now)) }
     ensures same { V.files vault.new ≡ V.files vault.old }
-    ensures count { Counts (V.faults vault.old) (V.faults vault.new) (IsErrOf result ViewFault.VaultFault) }
+    ensures count { Counts (V.faults vault.old) (V.faults vault.new)
+        (IsErrOf result ViewFault.VaultFault) }
     ensures called { V.calls vault.new ≤ V.calls vault.old + length names.now }
 {
     let loaded = get_each(alloc, vault, container, names)?;
@@ -62,10 +65,13 @@ fn get_each<V: Vault>(
     container: &Text,
     names: &Names,
 ) -> Result<Seq<LoadedFile>, ViewFault>
-    ensures ok { IfOk result (λ loaded. (files : List File) → V.files vault.old ≡ Some files → spec.each_or (spec.range_at (inside container.now files)) names.now ≡ Ok loaded) }
-    ensures err { IfErr result (λ fault. (files : List File) → V.files vault.old ≡ Some files → Fails fault (spec.each_or (spec.range_at (inside container.now files)) names.now)) }
+    ensures ok { IfOk result (λ loaded. (files : List File) → V.files vault.old ≡ Some files
+        → spec.each_or (spec.range_at (inside container.now files)) names.now ≡ Ok loaded) }
+    ensures err { IfErr result (λ fault. (files : List File) → V.files vault.old ≡ Some files
+        → Fails fault (spec.each_or (spec.range_at (inside container.now files)) names.now)) }
     ensures same { V.files vault.new ≡ V.files vault.old }
-    ensures count { Counts (V.faults vault.old) (V.faults vault.new) (IsErrOf result ViewFault.VaultFault) }
+    ensures count { Counts (V.faults vault.old) (V.faults vault.new)
+        (IsErrOf result ViewFault.VaultFault) }
     ensures called { V.calls vault.new ≤ V.calls vault.old + length names.now }
 {
     let mut loaded = Seq::new(alloc);
@@ -86,10 +92,13 @@ fn get_range<V: Vault>(
     container: &Text,
     name: &Text,
 ) -> Result<LoadedFile, ViewFault>
-    ensures ok { IfOk result (λ file. (files : List File) → V.files vault.old ≡ Some files → spec.range_at (inside container.now files) name.now ≡ Ok file) }
-    ensures err { IfErr result (λ fault. (files : List File) → V.files vault.old ≡ Some files → Fails fault (spec.range_at (inside container.now files) name.now)) }
+    ensures ok { IfOk result (λ file. (files : List File) → V.files vault.old ≡ Some files
+        → spec.range_at (inside container.now files) name.now ≡ Ok file) }
+    ensures err { IfErr result (λ fault. (files : List File) → V.files vault.old ≡ Some files
+        → Fails fault (spec.range_at (inside container.now files) name.now)) }
     ensures same { V.files vault.new ≡ V.files vault.old }
-    ensures count { Counts (V.faults vault.old) (V.faults vault.new) (IsErrOf result ViewFault.VaultFault) }
+    ensures count { Counts (V.faults vault.old) (V.faults vault.new)
+        (IsErrOf result ViewFault.VaultFault) }
     ensures called { V.calls vault.new ≤ V.calls vault.old + 1 }
 {
     let bytes = get_file(alloc, vault, container, name)?;
@@ -98,8 +107,10 @@ fn get_range<V: Vault>(
 
 // What the bytes of a range file say.
 fn read_file(alloc: Global, name: &Text, bytes: &[u8]) -> Result<LoadedFile, ViewFault>
-    ensures ok { IfOk result (λ file. spec.range_by name.now bytes.now (name_of name.now) ≡ Ok file) }
-    ensures err { IfErr result (λ fault. (fault ≡ faults.NoMemory) ⊎ (spec.range_by name.now bytes.now (name_of name.now) ≡ Err fault)) }
+    ensures ok { IfOk result (λ file. spec.range_by name.now bytes.now (name_of name.now)
+        ≡ Ok file) }
+    ensures err { IfErr result (λ fault. (fault ≡ faults.NoMemory)
+        ⊎ (spec.range_by name.now bytes.now (name_of name.now) ≡ Err fault)) }
 {
     let Name::Range { version, block, .. } = parse(name.as_bytes()) else {
         let name = name.copy()?;

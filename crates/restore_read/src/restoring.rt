@@ -28,11 +28,14 @@ pub fn restore<V: Vault>(
     container: &Text,
     version: u64,
 ) -> Result<Pairs, ViewFault>
-    ensures ok { IfOk result (λ pairs. (files : List File) → V.files vault.old ≡ Some files → Loads container.now files version (value_of pairs)) }
+    ensures ok { IfOk result (λ pairs. (files : List File) → V.files vault.old ≡ Some files
+        → Loads container.now files version (value_of pairs)) }
     ensures rising { IfOk result AreRising }
-    ensures err { IfErr result (λ fault. (files : List File) → V.files vault.old ≡ Some files → Fails fault (spec.loaded_of (inside container.now files) version)) }
+    ensures err { IfErr result (λ fault. (files : List File) → V.files vault.old ≡ Some files
+        → Fails fault (spec.loaded_of (inside container.now files) version)) }
     ensures same { V.files vault.new ≡ V.files vault.old }
-    ensures count { Counts (V.faults vault.old) (V.faults vault.new) (IsErrOf result ViewFault.VaultFault) }
+    ensures count { Counts (V.faults vault.old) (V.faults vault.new)
+        (IsErrOf result ViewFault.VaultFault) }
     ensures called { (files : List File) → V.files vault.old ≡ Some files →
         V.calls vault.new ≤ V.calls vault.old + spec.most_calls container.now files version }
 {
@@ -49,11 +52,14 @@ fn load<V: Vault>(
     container: &Text,
     version: u64,
 ) -> Result<Loaded, ViewFault>
-    ensures ok { IfOk result (λ set. (files : List File) → V.files vault.old ≡ Some files → spec.loaded_of (inside container.now files) version ≡ Ok set) }
+    ensures ok { IfOk result (λ set. (files : List File) → V.files vault.old ≡ Some files
+        → spec.loaded_of (inside container.now files) version ≡ Ok set) }
     ensures apart { IfOk result (λ set. first_overlap set.files ≡ None) }
-    ensures err { IfErr result (λ fault. (files : List File) → V.files vault.old ≡ Some files → Fails fault (spec.loaded_of (inside container.now files) version)) }
+    ensures err { IfErr result (λ fault. (files : List File) → V.files vault.old ≡ Some files
+        → Fails fault (spec.loaded_of (inside container.now files) version)) }
     ensures same { V.files vault.new ≡ V.files vault.old }
-    ensures count { Counts (V.faults vault.old) (V.faults vault.new) (IsErrOf result ViewFault.VaultFault) }
+    ensures count { Counts (V.faults vault.old) (V.faults vault.new)
+        (IsErrOf result ViewFault.VaultFault) }
     ensures called { (files : List File) → V.files vault.old ≡ Some files →
         V.calls vault.new ≤ V.calls vault.old + spec.most_calls container.now files version }
 {

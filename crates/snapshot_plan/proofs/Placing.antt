@@ -87,20 +87,6 @@ map_same (r ∷ rs) = ap (λ xs. r ∷ xs) (map_same rs)
 pub ranges_parted : (key : Bytes) (rs : List KeyRange) → AreSeparate rs → IsPartitionedBy (is_passed key) rs
 ranges_parted key rs s = parted (λ (r : KeyRange). r) (is_passed key) (λ a b r e. passed_before key a.end b.end r.1 e) rs (subst ArePieces (sym (map_same rs)) (separate_pieces rs s))
 
--- ---- how many stand in front
-
-one_more : (n : ℕ) → suc n ≡ 1 + n
-one_more n = omega arith
-
-pub halved : {A : Type 0} (p : A → Bool) (xs : List A) (i : ℕ) → i ≤ length xs → IsPartitionPoint (λ x. p x ≡ true) (λ x. p x ≡ false) xs i → i ≡ prefix_len p xs
-halved p [] zero le h = refl
-halved p [] (suc i) le h = absurd (omega arith)
-halved p (x ∷ xs) zero le h = sym (cond-false (p x) (1 + prefix_len p xs) 0 (h.1 0 x (omega arith) (omega arith)))
-halved p (x ∷ xs) (suc i) le h =
-    ap suc (halved p xs i (omega arith) ((λ k d l u. h.0 (suc k) d (omega arith) (omega arith)), (λ k d l u. h.1 (suc k) d (omega arith) (omega arith))))
-    ∙ one_more (prefix_len p xs)
-    ∙ sym (cond-true (p x) (1 + prefix_len p xs) 0 (h.0 0 x (omega arith) (omega arith)))
-
 -- ---- what stands at a place
 
 pub at_place : (noted : List Noted) (place : ℕ) (one : Noted) → place < length noted → one ≡ get_or noted place one → drop place noted ≡ one ∷ drop (place + 1) noted

@@ -1,5 +1,20 @@
 -- What the least keys are, and what the manifest of noted files is.
-use Rattle.std.specs.Prelude.{◌≡◌, ◌≢◌, ◌||◌, ◌↔◌, Bool, true, false, not, List, [], length, sum_by, Some, None}
+use Rattle.std.specs.Prelude.{
+  ◌≡◌,
+  ◌≢◌,
+  ◌||◌,
+  ◌↔◌,
+  Bool,
+  true,
+  false,
+  not,
+  List,
+  [],
+  length,
+  sum_by,
+  Some,
+  None,
+}
 use Rattle.fb_bytes.specs.Bytes.{Bytes}
 use Rattle.fb_bytes.specs.declared.KeyRange.{KeyRange}
 use Rattle.fb_bytes.specs.Options.{IsIn}
@@ -7,8 +22,25 @@ use Rattle.fb_bytes.specs.Keys.{holds, in_ranges, is_backwards, AreSeparate}
 use Rattle.snapshot_plan.specs.declared.file_map.Noted.{Noted}
 use Rattle.snapshot_plan.specs.declared.fault.MapFault.TheVariants.{OutsideRanges, Overlap}
 use Rattle.snapshot_plan.specs.Pieces.{ArePieces, outside, overlap, gap_in, IsFirst, IsFirstOrNone}
-use Rattle.snapshot_plan.specs.Noted.{Map, pieces_of, with_noted, without, fault_of, gap, manifest_of}
-use Rattle.snapshot_plan.specs.Listing.{noted_names, IsLeastVersion, IsGreatestVersion, AreOrdered, AreRising, AreDistinct, HaveRangeNames, IsWritable}
+use Rattle.snapshot_plan.specs.Noted.{
+  Map,
+  pieces_of,
+  with_noted,
+  without,
+  fault_of,
+  gap,
+  manifest_of,
+}
+use Rattle.snapshot_plan.specs.Listing.{
+  noted_names,
+  IsLeastVersion,
+  IsGreatestVersion,
+  AreOrdered,
+  AreRising,
+  AreDistinct,
+  HaveRangeNames,
+  IsWritable,
+}
 
 -- the key is in no range
 abbrev pub is_out : List KeyRange → Bytes → Bool
@@ -65,14 +97,17 @@ pub record PieceLaw : Type 0 where
       → IsFirstOrNone (in_ranges ranges) (is_out pieces) (gap_in ranges pieces)
   -- a piece more holds its own keys more, and pieces stay in order
   pub more : (one : Noted) (noted : List Noted) (key : Bytes)
-      → in_ranges (pieces_of (with_noted one noted)) key ≡ (holds one.piece key || in_ranges (pieces_of noted) key)
-  pub stay : (one : Noted) (noted : List Noted) → ArePieces (pieces_of noted) → is_backwards one.piece ≡ false
+      → in_ranges (pieces_of (with_noted one noted)) key
+      ≡ (holds one.piece key || in_ranges (pieces_of noted) key)
+  pub stay : (one : Noted) (noted : List Noted) → ArePieces (pieces_of noted)
+      → is_backwards one.piece ≡ false
       → ((key : Bytes) → holds one.piece key ≡ true → in_ranges (pieces_of noted) key ≡ false)
       → ArePieces (pieces_of (with_noted one noted))
 
 -- A piece that was noted and is taken back leaves what was noted before.
 abbrev pub TakeBackLaw : Type 0
-TakeBackLaw = (one : Noted) (noted : List Noted) → without one.piece.begin (with_noted one noted) ≡ noted
+TakeBackLaw =
+    (one : Noted) (noted : List Noted) → without one.piece.begin (with_noted one noted) ≡ noted
 
 -- what the manifest of noted files says
 pub record ManifestLaw : Type 0 where
@@ -83,11 +118,14 @@ pub record ManifestLaw : Type 0 where
       → IsIn name (manifest_of noted).files ↔ IsIn name (noted_names noted)
   pub count : (noted : List Noted) → length (manifest_of noted).files ≡ length noted
   pub ordered : (noted : List Noted) → AreOrdered (manifest_of noted).files
-  pub rising : (noted : List Noted) → AreDistinct (noted_names noted) → AreRising (manifest_of noted).files
+  pub rising : (noted : List Noted) → AreDistinct (noted_names noted)
+      → AreRising (manifest_of noted).files
   -- the sum of the files' bytes
   pub bytes : (noted : List Noted) → (manifest_of noted).bytes ≡ sum_by (λ n. n.file.bytes) noted
 
--- the manifest of files with range names of their versions, of which no two are the same, can be written
+-- the manifest of files with range names of their versions, of which no two are the same, can be
+-- written
 abbrev pub WholeLaw : Type 0
-WholeLaw = (noted : List Noted) → noted ≢ [] → HaveRangeNames noted → AreDistinct (noted_names noted)
+WholeLaw = (noted : List Noted) → noted ≢ [] → HaveRangeNames noted
+    → AreDistinct (noted_names noted)
     → IsWritable (manifest_of noted)

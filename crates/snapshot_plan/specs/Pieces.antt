@@ -1,5 +1,17 @@
 -- Pieces of ranges of keys, and the least key that a list of them leaves out or holds.
-use Rattle.std.specs.Prelude.{◌≡◌, Bool, true, false, List, [], ◌∷◌, Option, Some, None, if◌then◌else◌}
+use Rattle.std.specs.Prelude.{
+  ◌≡◌,
+  Bool,
+  true,
+  false,
+  List,
+  [],
+  ◌∷◌,
+  Option,
+  Some,
+  None,
+  if◌then◌else◌,
+}
 use Rattle.fb_bytes.specs.Bytes.{Bytes, is_below}
 use Rattle.fb_bytes.specs.declared.KeyRange.{KeyRange}
 use Rattle.fb_bytes.specs.Keys.{holds, is_backwards}
@@ -13,7 +25,8 @@ BeginFrom key (piece ∷ pieces) = is_below piece.begin key ≡ false
 -- in key order, none empty, and no two overlap; they may touch
 abbrev pub ArePieces : List KeyRange → Type 0
 ArePieces [] = Unit {0}
-ArePieces (piece ∷ pieces) = (is_backwards piece ≡ false) × BeginFrom piece.end pieces × ArePieces pieces
+ArePieces (piece ∷ pieces) =
+    (is_backwards piece ≡ false) × BeginFrom piece.end pieces × ArePieces pieces
 
 -- the key itself, or where the pieces that hold it, one behind the other, end
 abbrev pub covered_from : List KeyRange → Bytes → Bytes
@@ -37,7 +50,8 @@ later a b = if is_below a b then b else a
 abbrev pub overlap : List KeyRange → KeyRange → Option Bytes
 overlap [] range = None
 overlap (piece ∷ pieces) range =
-    if overlaps piece range then if_below (later piece.begin range.begin) range.end else overlap pieces range
+    if overlaps piece range then if_below (later piece.begin range.begin) range.end
+    else overlap pieces range
 
 -- the first of two keys that is there
 abbrev pub or_else : Option Bytes → Option Bytes → Option Bytes

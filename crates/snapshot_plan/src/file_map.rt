@@ -60,7 +60,8 @@ impl FileMap {
     /// Why the piece can't be noted, if it can't. It changes nothing.
     pub fn check(&self, piece: &KeyRange) -> Result<(), MapFault>
         ensures ok { OnOk result (spec.fault_of self.now piece.now ≡ None) }
-        ensures err { IfErr result (λ fault. (fault ≡ MapFault.NoMemory) ⊎ (spec.fault_of self.now piece.now ≡ Some fault)) }
+        ensures err { IfErr result (λ fault. (fault ≡ MapFault.NoMemory)
+            ⊎ (spec.fault_of self.now piece.now ≡ Some fault)) }
     {
         if let Some(key) = outside(self.ranges.as_slice(), piece) {
             let key = Blob::from_slice(self.alloc(), key)?;
@@ -76,8 +77,11 @@ impl FileMap {
     /// Notes the file of a piece. Of a piece without keys nothing is to be noted.
     pub fn done(&mut self, piece: KeyRange, file: Done) -> Result<(), MapFault>
         ensures ok { OnOk result (spec.fault_of self.old piece ≡ None) }
-        ensures err { IfErr result (λ fault. (fault ≡ MapFault.NoMemory) ⊎ (spec.fault_of self.old piece ≡ Some fault)) }
-        ensures noted { OnOk result (self.new ≡ record self.old { noted = spec.with_done (record { piece = piece; file = file }) self.old.noted }) }
+        ensures err { IfErr result (λ fault. (fault ≡ MapFault.NoMemory)
+            ⊎ (spec.fault_of self.old piece ≡ Some fault)) }
+        ensures noted { OnOk result
+            (self.new ≡ record self.old
+            { noted = spec.with_done (record { piece = piece; file = file }) self.old.noted }) }
         ensures refused { OnErr result (self.new ≡ self.old) }
     {
         self.check(&piece)?;
@@ -115,9 +119,11 @@ impl FileMap {
     /// The manifest of the noted files, once they tile the ranges. More bytes than a name has room for
     /// are want of memory.
     pub fn manifest(&self) -> Result<Manifest, MapFault>
-        ensures ok { IfOk result (λ manifest. (spec.gap self.now ≡ None) × (manifest ≡ spec.manifest_of self.now.noted)) }
+        ensures ok { IfOk result (λ manifest. (spec.gap self.now ≡ None)
+            × (manifest ≡ spec.manifest_of self.now.noted)) }
         ensures fits { IfOk result (λ manifest. manifest.bytes ≤ spec.most_bytes) }
-        ensures err { IfErr result (λ fault. (fault ≡ MapFault.NoMemory) ⊎ (option_map (λ key. MapFault.Untiled key) (spec.gap self.now) ≡ Some fault)) }
+        ensures err { IfErr result (λ fault. (fault ≡ MapFault.NoMemory)
+            ⊎ (option_map (λ key. MapFault.Untiled key) (spec.gap self.now) ≡ Some fault)) }
     {
         let gap = self.gap()?;
         if let Some(key) = gap {

@@ -111,7 +111,8 @@ fn reach<'a>(noted: &'a [Noted], from: usize, range: &'a KeyRange) -> Result<usi
     requires from { from ≤ length noted.now }
     requires range { is_backwards range.now ≡ false }
     requires pieces { ArePieces (pieces_of (drop from noted.now)) }
-    ensures gap { IfErr result (λ key. spec.outside (pieces_of (drop from noted.now)) range.now ≡ Some key.now) }
+    ensures gap { IfErr result (λ key. spec.outside (pieces_of (drop from noted.now)) range.now
+        ≡ Some key.now) }
     ensures reaches { IfOk result (λ place. Reaches noted.now range.now from place) }
 {
     let mut key = range.begin.as_slice();

@@ -17,7 +17,6 @@ use Rattle.version_map.proofs.Parts.{begins_from, ends_upto}
 
 -- ---- a search by halving
 
-
 one_first : (n : ℕ) → suc n ≡ 1 + n
 one_first n = omega arith
 

@@ -108,7 +108,8 @@ fn fronts(alloc: Global, pieces: &[Piece], key: &Blob) -> Result<Vec<Piece>, All
 
 /// Adds what is left of the pieces from a key on.
 fn push_backs(list: &mut Vec<Piece>, pieces: &[Piece], key: &Blob) -> Result<(), AllocError>
-    ensures { OnOk result (list.new.items ≡ list.old.items ++ flat_map (back_of key.now) pieces.now) }
+    ensures { OnOk result (list.new.items ≡ list.old.items
+        ++ flat_map (back_of key.now) pieces.now) }
 {
     for piece in pieces {
         let begin = later(key, &piece.range.begin);

@@ -18,7 +18,8 @@ pub fn push_piece(
     end: &Blob,
     version: u64,
 ) -> Result<(), AllocError>
-    ensures { OnOk result (pieces.new.items ≡ pieces.old.items ++ piece_of (record { begin = begin.now; end = end.now }) version) }
+    ensures { OnOk result (pieces.new.items ≡ pieces.old.items
+        ++ piece_of (record { begin = begin.now; end = end.now }) version) }
 {
     if is_below(begin.as_slice(), end.as_slice()) {
         let range = KeyRange {

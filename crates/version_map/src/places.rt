@@ -38,7 +38,8 @@ pub(crate) fn among<'a>(pieces: &'a [Piece], range: &KeyRange) -> &'a [Piece]
 // How many pieces at the front the key is past.
 fn passed(pieces: &[Piece], key: &[u8]) -> usize
     requires { ArePieces pieces.now }
-    ensures count { result ≡ prefix_len (λ piece. not (bytes.is_below key.now piece.range.end)) pieces.now }
+    ensures count { result
+        ≡ prefix_len (λ piece. not (bytes.is_below key.now piece.range.end)) pieces.now }
     ensures within { result ≤ length pieces.now }
 {
     pieces.partition_point(|piece| !is_below(key, piece.range.end.as_slice()))
@@ -47,7 +48,8 @@ fn passed(pieces: &[Piece], key: &[u8]) -> usize
 // How many pieces at the front begin below the key.
 fn begun(pieces: &[Piece], key: &[u8]) -> usize
     requires { ArePieces pieces.now }
-    ensures count { result ≡ prefix_len (λ piece. bytes.is_below piece.range.begin key.now) pieces.now }
+    ensures count { result
+        ≡ prefix_len (λ piece. bytes.is_below piece.range.begin key.now) pieces.now }
     ensures within { result ≤ length pieces.now }
 {
     pieces.partition_point(|piece| is_below(piece.range.begin.as_slice(), key))

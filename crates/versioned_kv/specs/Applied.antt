@@ -7,7 +7,8 @@ use Rattle.mutations.specs.declared.mutation.Mutation.{Mutation}
 use Rattle.mutations.specs.Replay.{replayed, AreRising}
 use Rattle.versioned_kv.specs.Chains.{Chain, value_at}
 
--- what contracts see of a store: the limit of values that an operation appends to, the oldest version that can be read, the versions that were applied, and the rows of each key
+-- what contracts see of a store: the limit of values that an operation appends to, the oldest
+-- version that can be read, the versions that were applied, and the rows of each key
 pub record Contents : Type 0 where
   pub limit : ℕ
   pub oldest : ℕ
@@ -18,11 +19,13 @@ pub record Contents : Type 0 where
 abbrev pub applied_at : ℕ → List Batch → ℕ → Bytes → Option Bytes
 applied_at limit entries version key = replayed limit entries 0 (version + 1) key None
 
--- These entries were applied to the store, one after the other, and from its oldest version on it has their states.
+-- These entries were applied to the store, one after the other, and from its oldest version on it
+-- has their states.
 pub record Holds (store : Contents) (entries : List Batch) : Type 0 where
   pub rising : AreRising entries
   pub versions : store.versions ≡ map (λ (entry : Batch). entry.version) entries
-  pub states : (key : Bytes) (version : ℕ) → store.oldest ≤ version → value_at store.chains key version ≡ applied_at store.limit entries version key
+  pub states : (key : Bytes) (version : ℕ) → store.oldest ≤ version
+      → value_at store.chains key version ≡ applied_at store.limit entries version key
 
 -- past every version that was applied
 abbrev pub IsPast : ℕ → List ℕ → Type 0
@@ -40,4 +43,6 @@ pub record StandsWith (old : Contents) (applied : List ℕ) (new : Contents) : T
 
 -- there is a newest version, and it isn't forgotten
 abbrev pub IsRetractable : Contents → Type 0
-IsRetractable store = (versions : List ℕ) × (version : ℕ) × (store.versions ≡ versions ++ version ∷ []) × (store.oldest < version)
+IsRetractable store =
+    (versions : List ℕ) × (version : ℕ) × (store.versions ≡ versions ++ version ∷ [])
+    × (store.oldest < version)

@@ -1,5 +1,21 @@
 -- Keys and their versions: each key has a chain of rows, one for each version that changed it.
-use Rattle.std.specs.Prelude.{◌≡◌, ℕ, zero, suc, ◌<◌, Bool, true, List, [], ◌∷◌, length, Option, None, nat_le, if◌then◌else◌}
+use Rattle.std.specs.Prelude.{
+  ◌≡◌,
+  ℕ,
+  zero,
+  suc,
+  ◌<◌,
+  Bool,
+  true,
+  List,
+  [],
+  ◌∷◌,
+  length,
+  Option,
+  None,
+  nat_le,
+  if◌then◌else◌,
+}
 use Rattle.std.specs.List.{AllByRecursion}
 use Rattle.fb_bytes.specs.Bytes.{Bytes, is_below, is_same}
 pub use Rattle.versioned_kv.specs.declared.chain.Row.{Row}
@@ -8,7 +24,8 @@ pub use Rattle.versioned_kv.specs.declared.chain.Chain.{Chain}
 -- what the last row at or below a version left, or what was there before the rows
 abbrev pub value_in : List Row → ℕ → Option Bytes → Option Bytes
 value_in [] version before = before
-value_in (row ∷ rows) version before = value_in rows version (if nat_le row.version version then row.value else before)
+value_in (row ∷ rows) version before =
+    value_in rows version (if nat_le row.version version then row.value else before)
 
 -- the rows of a key
 abbrev pub rows_of : List Chain → Bytes → List Row
@@ -27,7 +44,9 @@ AreRising (row ∷ rows) = AllByRecursion (λ later. row.version < later.version
 -- in the order of their keys, each key once, each with a row or more
 abbrev pub AreChains : List Chain → Type 0
 AreChains [] = Unit {0}
-AreChains (chain ∷ chains) = AllByRecursion (λ later. is_below chain.key later.key ≡ true) chains × (0 < length chain.rows) × AreRising chain.rows × AreChains chains
+AreChains (chain ∷ chains) =
+    AllByRecursion (λ later. is_below chain.key later.key ≡ true) chains × (0 < length chain.rows)
+    × AreRising chain.rows × AreChains chains
 
 -- how many entries at the front pass a test
 abbrev pub front_len : {A : Type 0} → (A → Bool) → List A → ℕ

@@ -20,7 +20,8 @@ AreKeysBelow key chains = AllByRecursion (λ chain. is_below chain.key key ≡ t
 abbrev pub AreKeysPast : Bytes → List Chain → Type 0
 AreKeysPast key chains = AllByRecursion (λ chain. is_below key chain.key ≡ true) chains
 
--- A key belongs to the chunk at a place: those before it have lower keys, and those behind it greater ones.
+-- A key belongs to the chunk at a place: those before it have lower keys, and those behind it
+-- greater ones.
 pub record BelongsTo (key : Bytes) (place : ℕ) (chunks : List (List Chain)) : Type 0 where
   pub before : AreKeysBelow key (joined (take place chunks))
   pub behind : AreKeysPast key (joined (drop (suc place) chunks))

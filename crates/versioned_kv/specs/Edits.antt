@@ -1,5 +1,23 @@
 -- What a version adds to keys, and what is left without it.
-use Rattle.std.specs.Prelude.{◌≡◌, ℕ, zero, suc, ◌≤◌, List, [], ◌∷◌, ◌++◌, Bool, false, Option, Some, None, nat_eq, is_some, if◌then◌else◌}
+use Rattle.std.specs.Prelude.{
+  ◌≡◌,
+  ℕ,
+  zero,
+  suc,
+  ◌≤◌,
+  List,
+  [],
+  ◌∷◌,
+  ◌++◌,
+  Bool,
+  false,
+  Option,
+  Some,
+  None,
+  nat_eq,
+  is_some,
+  if◌then◌else◌,
+}
 use Rattle.std.specs.List.{AllByRecursion}
 use Rattle.fb_bytes.specs.Bytes.{Bytes, is_below, is_same}
 use Rattle.fb_bytes.specs.declared.KeyRange.{KeyRange}
@@ -9,7 +27,9 @@ use Rattle.versioned_kv.specs.Chains.{Row, Chain, AreChains, value_in}
 -- the rows of other versions
 abbrev pub without_rows : ℕ → List Row → List Row
 without_rows version [] = []
-without_rows version (row ∷ rows) = if nat_eq row.version version then without_rows version rows else row ∷ without_rows version rows
+without_rows version (row ∷ rows) =
+    if nat_eq row.version version then without_rows version rows
+    else row ∷ without_rows version rows
 
 -- the rows once this one is the last, in place of another of its version
 abbrev pub put_row : Row → List Row → List Row
@@ -23,14 +43,16 @@ with_rows key (row ∷ rows) rest = record { key = key; rows = row ∷ rows } �
 -- what other versions left
 abbrev pub without : ℕ → List Chain → List Chain
 without version [] = []
-without version (chain ∷ chains) = with_rows chain.key (without_rows version chain.rows) (without version chains)
+without version (chain ∷ chains) =
+    with_rows chain.key (without_rows version chain.rows) (without version chains)
 
 -- the chains once a row was put at a key
 abbrev pub put_at : Bytes → Row → List Chain → List Chain
 put_at key row [] = record { key = key; rows = row ∷ [] } ∷ []
 put_at key row (chain ∷ chains) =
     if is_below chain.key key then chain ∷ put_at key row chains
-    else if is_same chain.key key then record { key = chain.key; rows = put_row row chain.rows } ∷ chains
+    else if is_same chain.key key
+    then record { key = chain.key; rows = put_row row chain.rows } ∷ chains
     else record { key = key; rows = row ∷ [] } ∷ chain ∷ chains
 
 -- the row, if there is one, is of the version
@@ -58,20 +80,30 @@ pub record Extends (version : ℕ) (old new : List Chain) : Type 0 where
 
 -- a chain once its key is taken away, where it had a value
 abbrev pub clear_chain : ℕ → Chain → Chain
-clear_chain version chain = if is_some (value_in chain.rows version None) then record { key = chain.key; rows = put_row (record { version = version; value = None }) chain.rows } else chain
+clear_chain version chain =
+    if is_some (value_in chain.rows version None)
+    then record {
+      key = chain.key;
+      rows = put_row (record { version = version; value = None }) chain.rows;
+    } else chain
 
 -- the chains once those of the range that are among the first so many are cleared
 abbrev pub cleared_upto : ℕ → KeyRange → ℕ → List Chain → List Chain
 cleared_upto zero range version chains = chains
 cleared_upto (suc place) range version [] = []
-cleared_upto (suc place) range version (chain ∷ chains) = (if holds range chain.key then clear_chain version chain else chain) ∷ cleared_upto place range version chains
+cleared_upto (suc place) range version (chain ∷ chains) =
+    (if holds range chain.key then clear_chain version chain else chain) ∷ cleared_upto place range
+    version chains
 
 -- the chains once all those of the range are cleared
 abbrev pub all_cleared : KeyRange → ℕ → List Chain → List Chain
 all_cleared range version [] = []
-all_cleared range version (chain ∷ chains) = (if holds range chain.key then clear_chain version chain else chain) ∷ all_cleared range version chains
+all_cleared range version (chain ∷ chains) =
+    (if holds range chain.key then clear_chain version chain else chain) ∷ all_cleared range version
+    chains
 
--- some of the first chains are as they are once those of the range are cleared, and the others as they were
+-- some of the first chains are as they are once those of the range are cleared, and the others as
+-- they were
 pub record IsClearedUpto (range : KeyRange) (version : ℕ) (old new : List Chain) : Type 0 where
   pub place : ℕ
   pub cleared : new ≡ cleared_upto place range version old

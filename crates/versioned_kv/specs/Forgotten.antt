@@ -13,7 +13,8 @@ forget_chain oldest chain = record { key = chain.key; rows = forgotten oldest ch
 abbrev pub forgotten_upto : ℕ → ℕ → List Chain → List Chain
 forgotten_upto zero oldest chains = chains
 forgotten_upto (suc place) oldest [] = []
-forgotten_upto (suc place) oldest (chain ∷ chains) = forget_chain oldest chain ∷ forgotten_upto place oldest chains
+forgotten_upto (suc place) oldest (chain ∷ chains) =
+    forget_chain oldest chain ∷ forgotten_upto place oldest chains
 
 -- the same for each key
 abbrev pub all_forgotten : ℕ → List Chain → List Chain

@@ -8,7 +8,9 @@ use Rattle.versioned_kv.specs.Digits.{digits, AreDigits}
 
 -- once the entries of a history are applied, a store has the history's states
 abbrev pub HistoryLaw : Type 0
-HistoryLaw = (limit : ℕ) (history : List Entry) (version : ℕ) (key : Bytes) → applied_at limit (batches_of history) version key ≡ state_at limit history version key
+HistoryLaw =
+    (limit : ℕ) (history : List Entry) (version : ℕ) (key : Bytes)
+    → applied_at limit (batches_of history) version key ≡ state_at limit history version key
 
 -- the digits of a number are the least that are enough
 abbrev pub DigitsLaw : Type 0

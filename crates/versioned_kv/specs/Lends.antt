@@ -5,4 +5,5 @@ use Rattle.versioned_kv.specs.contracts.table.entries.Table.{the_row}
 
 -- The table has what was left at the place, and its other entries are as they were.
 abbrev pub LendsEntry : (T : RattleType) → MutBor (List T.Denot) → ℕ → MutBor T.Denot → Fml
-LendsEntry T table place entry = Lends (the_row T) T table entry (λ left. slice_set table.now place left)
+LendsEntry T table place entry =
+    Lends (the_row T) T table entry (λ left. slice_set table.now place left)

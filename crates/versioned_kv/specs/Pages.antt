@@ -1,5 +1,23 @@
 -- The first pairs of a range.
-use Rattle.std.specs.Prelude.{◌≡◌, ℕ, ◌≤◌, Bool, true, ◌&&◌, List, [], ◌∷◌, ◌++◌, length, Option, Some, None, is_some, unwrap_or, if◌then◌else◌}
+use Rattle.std.specs.Prelude.{
+  ◌≡◌,
+  ℕ,
+  ◌≤◌,
+  Bool,
+  true,
+  ◌&&◌,
+  List,
+  [],
+  ◌∷◌,
+  ◌++◌,
+  length,
+  Option,
+  Some,
+  None,
+  is_some,
+  unwrap_or,
+  if◌then◌else◌,
+}
 use Rattle.fb_bytes.specs.Bytes.{Bytes, is_below}
 use Rattle.fb_bytes.specs.declared.KeyRange.{KeyRange}
 use Rattle.fb_bytes.specs.Keys.{holds}
@@ -16,11 +34,16 @@ is_before (Some next) key = is_below key next
 -- the key that is left is the first of the range behind the pairs of a full page
 abbrev pub IsNext : (Bytes → Option Bytes) → KeyRange → ℕ → List Pair → Option Bytes → Type 0
 IsNext state range limit pairs None = Unit {0}
-IsNext state range limit pairs (Some next) = (holds range next ≡ true) × (is_some (state next) ≡ true) × (length pairs ≡ limit)
+IsNext state range limit pairs (Some next) =
+    (holds range next ≡ true) × (is_some (state next) ≡ true) × (length pairs ≡ limit)
 
--- The page has the pairs of the range before the key that is left: at each of their keys what the state has, and at most as many as the limit.
-pub record IsPage (state : Bytes → Option Bytes) (range : KeyRange) (limit : ℕ) (page : Page) : Type 0 where
-  pub told : (key : Bytes) → value_of page.pairs key ≡ (if holds range key && is_before page.next key then state key else None)
+-- The page has the pairs of the range before the key that is left: at each of their keys what the
+-- state has, and at most as many as the limit.
+pub record IsPage (state : Bytes → Option Bytes) (range : KeyRange) (limit : ℕ)
+    (page : Page) : Type 0 where
+  pub told : (key : Bytes)
+      → value_of page.pairs key
+      ≡ (if holds range key && is_before page.next key then state key else None)
   pub few : length page.pairs ≤ limit
   pub next : IsNext state range limit page.pairs page.next
 
@@ -32,14 +55,17 @@ pair_of key (Some value) = record { key = key; value = value } ∷ []
 -- the pairs of a range at a version
 abbrev pub pairs_in : KeyRange → ℕ → List Chain → List Pair
 pairs_in range version [] = []
-pairs_in range version (chain ∷ chains) = (if holds range chain.key then pair_of chain.key (value_in chain.rows version None) else []) ++ pairs_in range version chains
+pairs_in range version (chain ∷ chains) =
+    (if holds range chain.key then pair_of chain.key (value_in chain.rows version None) else [])
+    ++ pairs_in range version chains
 
 -- the range up to the key that is left
 abbrev pub range_upto : KeyRange → Option Bytes → KeyRange
 range_upto range next = record { begin = range.begin; end = unwrap_or next range.end }
 
 -- To earlier pairs those of the chains were added, up to the key that is left.
-pub record IsPart (range : KeyRange) (version limit : ℕ) (chains : List Chain) (old new : List Pair) (next : Option Bytes) : Type 0 where
+pub record IsPart (range : KeyRange) (version limit : ℕ) (chains : List Chain) (old new : List Pair)
+    (next : Option Bytes) : Type 0 where
   pub pairs : new ≡ old ++ pairs_in (range_upto range next) version chains
   pub few : length new ≤ limit
   pub left : IsNext (λ key. value_at chains key version) range limit new next

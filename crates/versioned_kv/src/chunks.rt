@@ -52,7 +52,9 @@ pub fn value<'a, L: Ledger>(
     requires chains { AreChains (joined chunks.now) }
     requires filled { AreFilled chunks.now }
     ensures value { option_copied result ≡ value_at (joined chunks.now) key.now version }
-    ensures steps { (d e : ℕ) → length (joined chunks.now) < 2 ^ d → length (rows_of (joined chunks.now) key.now) < 2 ^ e → steps.new ≤ steps.old + (2 * d + e + 2) }
+    ensures steps { (d e : ℕ) → length (joined chunks.now) < 2 ^ d
+        → length (rows_of (joined chunks.now) key.now) < 2 ^ e
+        → steps.new ≤ steps.old + (2 * d + e + 2) }
 {
     if chunks.is_empty() {
         return None;
@@ -72,7 +74,8 @@ pub fn put<L: Ledger>(
     requires filled { AreFilled chunks.old.items }
     requires upto { AreUpto row.version (joined chunks.old.items) }
     ensures filled { AreFilled chunks.new.items }
-    ensures ok { OnOk result (joined chunks.new.items ≡ put_at key.now row (joined chunks.old.items)) }
+    ensures ok { OnOk result
+        (joined chunks.new.items ≡ put_at key.now row (joined chunks.old.items)) }
     ensures err { OnErr result (joined chunks.new.items ≡ joined chunks.old.items) }
 {
     if chunks.is_empty() {
@@ -107,7 +110,8 @@ fn room_for<L: Ledger>(
     requires some { 0 < length chunks.old.items }
     ensures filled { AreFilled chunks.new.items }
     ensures same { joined chunks.new.items ≡ joined chunks.old.items }
-    ensures place { IfOk result (λ place. (place < length chunks.new.items) × BelongsTo key.now place chunks.new.items) }
+    ensures place { IfOk result (λ place. (place < length chunks.new.items)
+        × BelongsTo key.now place chunks.new.items) }
 {
     let place = chunk_of(chunks, key, steps);
     if chunks[place].len() < MOST {
@@ -121,7 +125,8 @@ fn room_for<L: Ledger>(
 fn split(chunks: &mut Vec<Table<Chain>>, place: usize) -> Result<(), AllocError>
     requires place { place < length chunks.old.items }
     requires filled { AreFilled chunks.old.items }
-    requires two { (chunk : List Chain) → slice_get chunks.old.items place ≡ Some chunk → 2 ≤ length chunk }
+    requires two { (chunk : List Chain) → slice_get chunks.old.items place ≡ Some chunk
+        → 2 ≤ length chunk }
     ensures filled { AreFilled chunks.new.items }
     ensures same { joined chunks.new.items ≡ joined chunks.old.items }
     ensures some { 0 < length chunks.new.items }
@@ -148,7 +153,8 @@ fn put_in<L: Ledger>(
     requires filled { AreFilled chunks.old.items }
     requires upto { AreUpto row.version (joined chunks.old.items) }
     ensures filled { AreFilled chunks.new.items }
-    ensures ok { OnOk result (joined chunks.new.items ≡ put_at key.now row (joined chunks.old.items)) }
+    ensures ok { OnOk result
+        (joined chunks.new.items ≡ put_at key.now row (joined chunks.old.items)) }
     ensures err { OnErr result (joined chunks.new.items ≡ joined chunks.old.items) }
 {
     let chunk = &mut chunks[place];
@@ -167,8 +173,11 @@ pub fn clear<L: Ledger>(
     requires filled { AreFilled chunks.old.items }
     requires upto { AreUpto version (joined chunks.old.items) }
     ensures filled { AreFilled chunks.new.items }
-    ensures part { IsClearedUpto (range_of begin.now end.now) version (joined chunks.old.items) (joined chunks.new.items) }
-    ensures ok { OnOk result (joined chunks.new.items ≡ all_cleared (range_of begin.now end.now) version (joined chunks.old.items)) }
+    ensures part { IsClearedUpto (range_of begin.now end.now) version (joined chunks.old.items)
+        (joined chunks.new.items) }
+    ensures ok { OnOk result
+        (joined chunks.new.items ≡ all_cleared (range_of begin.now end.now) version
+        (joined chunks.old.items)) }
 {
     if chunks.is_empty() {
         return Ok(());
@@ -191,9 +200,15 @@ fn clear_in<L: Ledger>(
     steps: &mut Steps<L>,
 ) -> Result<(), AllocError>
     requires place { place < length chunks.old.items }
-    requires chains { (chunk : List Chain) → slice_get chunks.old.items place ≡ Some chunk → AreChains chunk × AreUpto version chunk }
-    ensures part { (chunk : List Chain) → slice_get chunks.old.items place ≡ Some chunk → (left : List Chain) × IsClearedUpto (range_of begin.now end.now) version chunk left × (chunks.new.items ≡ slice_set chunks.old.items place left) }
-    ensures ok { OnOk result ((chunk : List Chain) → slice_get chunks.old.items place ≡ Some chunk → chunks.new.items ≡ slice_set chunks.old.items place (all_cleared (range_of begin.now end.now) version chunk)) }
+    requires chains { (chunk : List Chain) → slice_get chunks.old.items place ≡ Some chunk
+        → AreChains chunk × AreUpto version chunk }
+    ensures part { (chunk : List Chain) → slice_get chunks.old.items place ≡ Some chunk
+        → (left : List Chain) × IsClearedUpto (range_of begin.now end.now) version chunk left
+        × (chunks.new.items ≡ slice_set chunks.old.items place left) }
+    ensures ok { OnOk result ((chunk : List Chain) → slice_get chunks.old.items place ≡ Some chunk
+        → chunks.new.items
+        ≡ slice_set chunks.old.items place
+        (all_cleared (range_of begin.now end.now) version chunk)) }
 {
     let chunk = &mut chunks[place];
     chunk.clear(begin, end, version, steps)
@@ -246,7 +261,8 @@ pub fn scan<L: Ledger>(
 ) -> Result<Page, AllocError>
     requires chains { AreChains (joined chunks.now) }
     requires filled { AreFilled chunks.now }
-    ensures { IfOk result (λ page. IsPage (λ key. value_at (joined chunks.now) key version) range.now limit page) }
+    ensures { IfOk result
+        (λ page. IsPage (λ key. value_at (joined chunks.now) key version) range.now limit page) }
 {
     let mut pairs = Vec::new(alloc);
     if chunks.is_empty() {

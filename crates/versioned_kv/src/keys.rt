@@ -52,7 +52,8 @@ impl Keys {
     pub fn value<L: Ledger>(&self, key: &[u8], version: u64, steps: &mut Steps<L>) -> Option<&Blob>
         requires { AreChains self.now }
         ensures value { option_copied result ≡ value_at self.now key.now version }
-        ensures steps { (d e : ℕ) → length self.now < 2 ^ d → length (rows_of self.now key.now) < 2 ^ e → steps.new ≤ steps.old + (2 * d + e + 2) }
+        ensures steps { (d e : ℕ) → length self.now < 2 ^ d
+            → length (rows_of self.now key.now) < 2 ^ e → steps.new ≤ steps.old + (2 * d + e + 2) }
     {
         chunks::value(&self.chunks, key, version, steps)
     }
@@ -67,7 +68,8 @@ impl Keys {
         requires chains { AreChains self.old }
         requires upto { AreUpto row.version self.old }
         ensures extends { Extends row.version self.old self.new }
-        ensures ok { OnOk result ((at : Bytes) → value_at self.new at row.version ≡ (if is_same key.now at then row.value else value_at self.old at row.version)) }
+        ensures ok { OnOk result ((at : Bytes) → value_at self.new at row.version
+            ≡ (if is_same key.now at then row.value else value_at self.old at row.version)) }
     {
         chunks::put(&mut self.chunks, key, row, steps)
     }
@@ -83,7 +85,9 @@ impl Keys {
         requires chains { AreChains self.old }
         requires upto { AreUpto version self.old }
         ensures extends { Extends version self.old self.new }
-        ensures ok { OnOk result ((key : Bytes) → value_at self.new key version ≡ (if holds (range_of begin.now end.now) key then None else value_at self.old key version)) }
+        ensures ok { OnOk result ((key : Bytes) → value_at self.new key version
+            ≡ (if holds (range_of begin.now end.now) key then None
+            else value_at self.old key version)) }
     {
         chunks::clear(&mut self.chunks, begin, end, version, steps)
     }
@@ -115,7 +119,8 @@ impl Keys {
         steps: &mut Steps<L>,
     ) -> Result<Page, AllocError>
         requires { AreChains self.now }
-        ensures { IfOk result (λ page. IsPage (λ key. value_at self.now key version) range.now limit page) }
+        ensures { IfOk result
+            (λ page. IsPage (λ key. value_at self.now key version) range.now limit page) }
     {
         let alloc = self.allocator();
         chunks::scan(&self.chunks, range, version, limit, alloc, steps)

@@ -82,8 +82,11 @@ impl Store {
     /// The value of a key at a version that isn't forgotten. It takes no memory.
     pub fn read<L: Ledger>(&self, key: &[u8], version: u64, steps: &mut Steps<L>) -> Option<&[u8]>
         requires { self.now.oldest ≤ version }
-        ensures state { (entries : List Batch) → Holds self.now entries → option_copied result ≡ applied_at self.now.limit entries version key.now }
-        ensures steps { steps.new ≤ steps.old + (2 * digits (length self.now.chains) + 2 * digits (length (rows_of self.now.chains key.now)) + 4) }
+        ensures state { (entries : List Batch) → Holds self.now entries
+            → option_copied result ≡ applied_at self.now.limit entries version key.now }
+        ensures steps { steps.new ≤ steps.old +
+            (2 * digits (length self.now.chains) + 2 * digits
+            (length (rows_of self.now.chains key.now)) + 4) }
     {
         let value = self.chains.value(key, version, steps)?;
         Some(value.as_slice())
@@ -92,7 +95,8 @@ impl Store {
     /// The first pairs of a range at a version that isn't forgotten, at most as many as the limit.
     pub fn scan(&self, range: &KeyRange, version: u64, limit: usize) -> Result<Page, AllocError>
         requires { self.now.oldest ≤ version }
-        ensures { IfOk result (λ page. (entries : List Batch) → Holds self.now entries → IsPage (applied_at self.now.limit entries version) range.now limit page) }
+        ensures { IfOk result (λ page. (entries : List Batch) → Holds self.now entries
+            → IsPage (applied_at self.now.limit entries version) range.now limit page) }
     {
         scan(&self.chains, range, version, limit)
     }
@@ -101,8 +105,10 @@ impl Store {
     /// was.
     pub fn apply(&mut self, version: u64, mutations: &Muts) -> Result<(), AllocError>
         requires { IsPast version self.old.versions }
-        ensures ok { OnOk result ((entries : List Batch) → Holds self.old entries → Holds self.new (with_entry entries version mutations.now)) }
-        ensures same { OnOk result (StandsWith self.old (self.old.versions ++ version ∷ []) self.new) }
+        ensures ok { OnOk result ((entries : List Batch) → Holds self.old entries
+            → Holds self.new (with_entry entries version mutations.now)) }
+        ensures same { OnOk result
+            (StandsWith self.old (self.old.versions ++ version ∷ []) self.new) }
         ensures rows { OnOk result (without version self.new.chains ≡ self.old.chains) }
         ensures err { OnErr result (self.new ≡ self.old) }
     {
@@ -120,7 +126,11 @@ impl Store {
     /// Forgets the versions before the oldest that is to be read. It takes no memory.
     pub fn forget(&mut self, oldest: u64)
         ensures holds { (entries : List Batch) → Holds self.old entries → Holds self.new entries }
-        ensures left { self.new ≡ record self.old { oldest = max self.old.oldest oldest; chains = all_forgotten (max self.old.oldest oldest) self.old.chains } }
+        ensures left { self.new
+            ≡ record self.old {
+              oldest = max self.old.oldest oldest;
+              chains = all_forgotten (max self.old.oldest oldest) self.old.chains;
+            } }
     {
         self.oldest = self.oldest.max(oldest);
         forget(&mut self.chains, self.oldest);
@@ -129,8 +139,10 @@ impl Store {
     /// Takes the newest entry back. It takes no memory.
     pub fn retract(&mut self)
         requires { IsRetractable self.old }
-        ensures holds { (entries : List Batch) (entry : Batch) → Holds self.old (entries ++ entry ∷ []) → Holds self.new entries }
-        ensures same { (versions : List ℕ) (version : ℕ) → self.old.versions ≡ versions ++ version ∷ [] → StandsWith self.old versions self.new }
+        ensures holds { (entries : List Batch) (entry : Batch)
+            → Holds self.old (entries ++ entry ∷ []) → Holds self.new entries }
+        ensures same { (versions : List ℕ) (version : ℕ) → self.old.versions ≡ versions
+            ++ version ∷ [] → StandsWith self.old versions self.new }
     {
         if let Some(version) = self.versions.pop() {
             cut(&mut self.chains, version);
@@ -158,7 +170,8 @@ fn write(
     requires chains { AreChains chains.old }
     requires upto { AreUpto version chains.old }
     ensures extends { Extends version chains.old chains.new }
-    ensures ok { OnOk result ((key : Bytes) → value_at chains.new key version ≡ effects limit mutations.now key (value_at chains.old key version)) }
+    ensures ok { OnOk result ((key : Bytes) → value_at chains.new key version
+        ≡ effects limit mutations.now key (value_at chains.old key version)) }
 {
     write_counted::<Brand>(chains, version, mutations, limit, Blank::new(1))
 }
@@ -176,7 +189,8 @@ fn write_counted<L: Ledger>(
     requires chains { AreChains chains.old }
     requires upto { AreUpto version chains.old }
     ensures extends { Extends version chains.old chains.new }
-    ensures ok { OnOk result ((key : Bytes) → value_at chains.new key version ≡ effects limit mutations.now key (value_at chains.old key version)) }
+    ensures ok { OnOk result ((key : Bytes) → value_at chains.new key version
+        ≡ effects limit mutations.now key (value_at chains.old key version)) }
 {
     let mut steps = Steps::<L>::new(blank);
     write_all(chains, version, mutations, limit, &mut steps)
@@ -225,7 +239,8 @@ fn forget_counted<L: Ledger>(chains: &mut Keys, oldest: u64, blank: Blank)
 /// The first pairs of a range at a version.
 fn scan(chains: &Keys, range: &KeyRange, version: u64, limit: usize) -> Result<Page, AllocError>
     requires { AreChains chains.now }
-    ensures { IfOk result (λ page. IsPage (λ key. value_at chains.now key version) range.now limit page) }
+    ensures { IfOk result
+        (λ page. IsPage (λ key. value_at chains.now key version) range.now limit page) }
 {
     scan_counted::<Brand>(chains, range, version, limit, Blank::new(1))
 }
@@ -241,7 +256,8 @@ fn scan_counted<L: Ledger>(
     requires parts { blank.parts ≡ L.parts }
     requires some { 0 < blank.parts }
     requires chains { AreChains chains.now }
-    ensures { IfOk result (λ page. IsPage (λ key. value_at chains.now key version) range.now limit page) }
+    ensures { IfOk result
+        (λ page. IsPage (λ key. value_at chains.now key version) range.now limit page) }
 {
     let mut steps = Steps::<L>::new(blank);
     chains.scan(range, version, limit, &mut steps)

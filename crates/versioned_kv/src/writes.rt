@@ -27,7 +27,8 @@ pub fn write_all<L: Ledger>(
     requires chains { AreChains chains.old }
     requires upto { AreUpto version chains.old }
     ensures extends { Extends version chains.old chains.new }
-    ensures ok { OnOk result ((key : Bytes) → value_at chains.new key version ≡ effects limit mutations.now key (value_at chains.old key version)) }
+    ensures ok { OnOk result ((key : Bytes) → value_at chains.new key version
+        ≡ effects limit mutations.now key (value_at chains.old key version)) }
 {
     for mutation in mutations {
         write_one(chains, version, mutation, limit, steps)?;
@@ -45,7 +46,8 @@ fn write_one<L: Ledger>(
     requires chains { AreChains chains.old }
     requires upto { AreUpto version chains.old }
     ensures extends { Extends version chains.old chains.new }
-    ensures ok { OnOk result ((key : Bytes) → value_at chains.new key version ≡ effect limit mutation.now key (value_at chains.old key version)) }
+    ensures ok { OnOk result ((key : Bytes) → value_at chains.new key version
+        ≡ effect limit mutation.now key (value_at chains.old key version)) }
 {
     match mutation {
         Mutation::Set { key, value } => {
@@ -76,7 +78,8 @@ fn operated<L: Ledger>(
     steps: &mut Steps<L>,
 ) -> Result<Option<Blob>, AllocError>
     requires { AreChains chains.now }
-    ensures { IfOk result (λ left. left ≡ operation op (value_at chains.now key.now version) param.now limit) }
+    ensures { IfOk result
+        (λ left. left ≡ operation op (value_at chains.now key.now version) param.now limit) }
 {
     let old = match chains.value(key, version, steps) {
         Some(value) => Some(value.as_slice()),

@@ -139,7 +139,8 @@ impl Table<Chain> {
         requires place { place < length self.old }
         requires chains { AreChains self.old }
         requires upto { AreUpto version self.old }
-        ensures ok { OnOk result ((chain : Chain) → slice_get self.old place ≡ Some chain → self.new ≡ slice_set self.old place (clear_chain version chain)) }
+        ensures ok { OnOk result ((chain : Chain) → slice_get self.old place ≡ Some chain
+            → self.new ≡ slice_set self.old place (clear_chain version chain)) }
         ensures err { OnErr result (self.new ≡ self.old) }
     {
         let chain = self.at_mut(place, steps);
@@ -157,7 +158,8 @@ impl Table<Chain> {
         requires chains { AreChains self.old }
         requires upto { AreUpto version self.old }
         ensures part { IsClearedUpto (range_of begin.now end.now) version self.old self.new }
-        ensures ok { OnOk result (self.new ≡ all_cleared (range_of begin.now end.now) version self.old) }
+        ensures ok { OnOk result
+            (self.new ≡ all_cleared (range_of begin.now end.now) version self.old) }
     {
         let first = self.place_of(begin, steps);
         let last = self.place_of(end, steps);
@@ -170,8 +172,11 @@ impl Table<Chain> {
     /// Takes the row of a version from the chain at a place, and the chain with its last row.
     fn cut_at<L: Ledger>(&mut self, place: usize, version: u64, steps: &mut Steps<L>)
         requires place { place < length self.old }
-        requires rows { (chain : Chain) → slice_get self.old place ≡ Some chain → AreRising chain.rows × AreRowsUpto version chain.rows }
-        ensures { (chain : Chain) → slice_get self.old place ≡ Some chain → self.new ≡ take place self.old ++ with_rows chain.key (without_rows version chain.rows) (drop (suc place) self.old) }
+        requires rows { (chain : Chain) → slice_get self.old place ≡ Some chain
+            → AreRising chain.rows × AreRowsUpto version chain.rows }
+        ensures { (chain : Chain) → slice_get self.old place ≡ Some chain
+            → self.new ≡ take place self.old
+            ++ with_rows chain.key (without_rows version chain.rows) (drop (suc place) self.old) }
     {
         let chain = self.at_mut(place, steps);
         chain.rows.cut(version, steps);
@@ -197,8 +202,10 @@ impl Table<Chain> {
     /// Forgets, of the chain at a place, the rows before the last one at or below the oldest version.
     fn forget_at<L: Ledger>(&mut self, place: usize, oldest: u64, steps: &mut Steps<L>)
         requires place { place < length self.old }
-        requires rising { (chain : Chain) → slice_get self.old place ≡ Some chain → AreRising chain.rows }
-        ensures { (chain : Chain) → slice_get self.old place ≡ Some chain → self.new ≡ slice_set self.old place (forget_chain oldest chain) }
+        requires rising { (chain : Chain) → slice_get self.old place ≡ Some chain
+            → AreRising chain.rows }
+        ensures { (chain : Chain) → slice_get self.old place ≡ Some chain
+            → self.new ≡ slice_set self.old place (forget_chain oldest chain) }
     {
         let chain = self.at_mut(place, steps);
         chain.rows.forget(oldest, steps);

@@ -52,7 +52,8 @@ impl Table<Chain> {
     pub fn value<L: Ledger>(&self, key: &[u8], version: u64, steps: &mut Steps<L>) -> Option<&Blob>
         requires { AreChains self.now }
         ensures value { option_copied result ≡ value_at self.now key.now version }
-        ensures steps { (d e : ℕ) → length self.now < 2 ^ d → length (rows_of self.now key.now) < 2 ^ e → steps.new ≤ steps.old + d + e + 2 }
+        ensures steps { (d e : ℕ) → length self.now < 2 ^ d
+            → length (rows_of self.now key.now) < 2 ^ e → steps.new ≤ steps.old + d + e + 2 }
     {
         let rows = self.rows(key, steps)?;
         rows.value(version, steps)

@@ -22,7 +22,8 @@ impl Table<Chain> {
     ) -> Result<Option<Blob>, AllocError>
         requires chains { AreChains self.now }
         requires few { length pairs.old.items ≤ limit }
-        ensures { IfOk result (λ next. IsPart range.now version limit self.now pairs.old.items pairs.new.items next) }
+        ensures { IfOk result
+            (λ next. IsPart range.now version limit self.now pairs.old.items pairs.new.items next) }
     {
         let first = self.place_of(range.begin.as_slice(), steps);
         let last = self.place_of(range.end.as_slice(), steps);
@@ -43,7 +44,8 @@ impl Table<Chain> {
 
 /// Adds a pair at the end.
 fn push_pair(pairs: &mut Vec<Pair>, key: &Blob, value: &Blob) -> Result<(), AllocError>
-    ensures { OnOk result (pairs.new.items ≡ pairs.old.items ++ record { key = key.now; value = value.now } ∷ []) }
+    ensures { OnOk result (pairs.new.items ≡ pairs.old.items
+        ++ record { key = key.now; value = value.now } ∷ []) }
 {
     let key = key.copy()?;
     let value = value.copy()?;

@@ -1,7 +1,8 @@
 use Rattle.std.proofs.Common.{rules}
 use Rattle.std.proofs.lemmas.List.Sorted.{IsPartitionPoint-from_clause}
 use Rattle.fb_bytes.specs.Bytes.{is_below}
-use Rattle.snapshot_plan.proofs.Placing.{halved, begins_parted}
+use Rattle.fb_bytes.proofs.Halving.{halved}
+use Rattle.snapshot_plan.proofs.Placing.{begins_parted}
 use Rattle.snapshot_plan.proofs.file_map.place_of.Goals as goal
 
 pub returns : goal.returns

@@ -2,7 +2,7 @@ use Rattle.std.proofs.Common.{◌≡◌, ◌≤◌, ap, sym, ◌∙◌, subst, s
 use Rattle.fb_bytes.specs.Bytes.{Bytes}
 use Rattle.snapshot_plan.specs.Noted.{gap, manifest_of, most_bytes}
 use Rattle.manifests.specs.declared.Manifest.{Manifest}
-use Rattle.backup_core.specs.Hand.{HandJob}
+use Rattle.backup_core.specs.Hand.{BackupJob}
 use Rattle.cluster_core.specs.World.{Seen}
 use Rattle.cluster_core.specs.Commands.{refuses}
 use Rattle.cluster_core.specs.declared.refusal.Refusal.TheVariants.{Untiled}
@@ -13,7 +13,7 @@ pub returns-in-Ok-clause-plan : goal.returns-in-Ok-clause-plan
 returns-in-Ok-clause-plan g c job at =
     seal_planned c.args.self.now.workload.settings c.args.self.now.state c.args.place c.index-job.result.now job c.in_ok-filing-in-Ok.filing
     (subst (λ (seen : Seen). c.index-job.result.now ≡ slice_index_or seen.state.jobs c.args.place c.index-job.result.now) c.self.view_is c.index-job.ensures)
-    (ap (λ (h : HandJob). gap h.map) (sym c.hand.ensures) ∙ c.in-Ok.ensures.ok.0) (subst (λ (m : Manifest). m.bytes ≤ most_bytes) (c.in-Ok.ensures.ok.1 ∙ ap (λ (h : HandJob). manifest_of h.map.noted) c.hand.ensures) c.in-Ok.ensures.fits) c.in_ok-filing-in-Ok.ensures.file at
+    (ap (λ (h : BackupJob). gap h.map) (sym c.hand.ensures) ∙ c.in-Ok.ensures.ok.0) (subst (λ (m : Manifest). m.bytes ≤ most_bytes) (c.in-Ok.ensures.ok.1 ∙ ap (λ (h : BackupJob). manifest_of h.map.noted) c.hand.ensures) c.in-Ok.ensures.fits) c.in_ok-filing-in-Ok.ensures.file at
 
 pub returns-in-Ok-clause-safe : goal.returns-in-Ok-clause-safe
 returns-in-Ok-clause-safe g c =

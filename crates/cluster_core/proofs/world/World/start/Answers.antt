@@ -5,7 +5,7 @@ use Rattle.cluster_core.specs.declared.event.Event.TheVariants as events
 use Rattle.cluster_core.specs.declared.event.StepFault.TheVariants.{VersionsSpent, NoMemory}
 use Rattle.cluster_core.specs.declared.plan.Plan.TheVariants as plans
 use Rattle.database.specs.Commits.{most_version}
-use Rattle.backup_core.specs.Hand.{HandJob}
+use Rattle.backup_core.specs.Hand.{BackupJob}
 use Rattle.cluster_core.specs.Commands.{new_job}
 use Rattle.cluster_core.specs.Jobs.{Job}
 use Rattle.cluster_core.specs.Moves.{Starved, moved}
@@ -40,7 +40,7 @@ invariant_of-self-in-Ok-begin_log g c =
       dst_is = c.in-Ok-begin_log.ensures.dst;
       version_is = c.in-Ok-begin_log.ensures.version;
       time = c.in-Ok-begin_log.ensures.time;
-      jobs_are = c.in-Ok.ensures.items ∙ ap (λ (j : Job). c.self.inside.jobs.items ++ j ∷ []) (c.new-job.ensures ∙ ap (λ (h : HandJob). record { tag = c.args.tag; side = c.args.side; container = c.args.container; hand = h }) c.in_ok-hand.ensures ∙ ap (new_job c.args.tag c.args.side c.args.container c.args.ranges.now) (next_same c.self.inside.versions.now c.self.inside.versions.pace c.in-Some.version c.in-Ok-begin_log.field-0 c.next.result c.next.ensures c.in-Some.is c.in-Ok-begin_log.ensures.version));
+      jobs_are = c.in-Ok.ensures.items ∙ ap (λ (j : Job). c.self.inside.jobs.items ++ j ∷ []) (c.new-job.ensures ∙ ap (λ (h : BackupJob). record { tag = c.args.tag; side = c.args.side; container = c.args.container; hand = h }) c.in_ok-hand.ensures ∙ ap (new_job c.args.tag c.args.side c.args.container c.args.ranges.now) (next_same c.self.inside.versions.now c.self.inside.versions.pace c.in-Some.version c.in-Ok-begin_log.field-0 c.next.result c.next.ensures c.in-Some.is c.in-Ok-begin_log.ensures.version));
       next_is = c.next_place-self-inside.ensures room;
     } in
     start_world c.self.inside.workload c.args.side c.args.tag c.args.container c.args.ranges.now c.self.inside.src c.self.inside.dst c.begin_log.new.src c.begin_log.new.dst c.self.inside.versions c.begin_log.new.versions c.self.inside.clients.items (record { jobs = c.self.inside.jobs.items; place = c.self.inside.place; tickets = c.self.inside.tickets }) (g.V.Vault.files c.self.inside.vault) c.push.new.self.items c.next_place-self-inside.result c.in-Ok-begin_log.field-0 c.self.invariant start plan listed
@@ -57,7 +57,7 @@ returns-in-Ok-begin_log-clause-step g c =
       dst_is = c.in-Ok-begin_log.ensures.dst;
       version_is = c.in-Ok-begin_log.ensures.version;
       time = c.in-Ok-begin_log.ensures.time;
-      jobs_are = c.in-Ok.ensures.items ∙ ap (λ (j : Job). c.self.inside.jobs.items ++ j ∷ []) (c.new-job.ensures ∙ ap (λ (h : HandJob). record { tag = c.args.tag; side = c.args.side; container = c.args.container; hand = h }) c.in_ok-hand.ensures ∙ ap (new_job c.args.tag c.args.side c.args.container c.args.ranges.now) (next_same c.self.inside.versions.now c.self.inside.versions.pace c.in-Some.version c.in-Ok-begin_log.field-0 c.next.result c.next.ensures c.in-Some.is c.in-Ok-begin_log.ensures.version));
+      jobs_are = c.in-Ok.ensures.items ∙ ap (λ (j : Job). c.self.inside.jobs.items ++ j ∷ []) (c.new-job.ensures ∙ ap (λ (h : BackupJob). record { tag = c.args.tag; side = c.args.side; container = c.args.container; hand = h }) c.in_ok-hand.ensures ∙ ap (new_job c.args.tag c.args.side c.args.container c.args.ranges.now) (next_same c.self.inside.versions.now c.self.inside.versions.pace c.in-Some.version c.in-Ok-begin_log.field-0 c.next.result c.next.ensures c.in-Some.is c.in-Ok-begin_log.ensures.version));
       next_is = c.next_place-self-inside.ensures room;
     } in
     let s = start_done c.self.inside.workload c.args.side c.args.tag c.args.container c.args.ranges.now c.self.inside.src c.self.inside.dst c.begin_log.new.src c.begin_log.new.dst c.self.inside.versions c.begin_log.new.versions c.self.inside.clients.items (record { jobs = c.self.inside.jobs.items; place = c.self.inside.place; tickets = c.self.inside.tickets }) (g.V.Vault.files c.self.inside.vault) c.push.new.self.items c.next_place-self-inside.result c.in-Ok-begin_log.field-0 c.self.invariant.pace start plan listed in
