@@ -24,7 +24,7 @@ use Rattle.versioned_kv.specs.Applied.{IsPast, with_entry}
 use Rattle.database.specs.declared.commit_fault.CommitFault.{CommitFault}
 use Rattle.database.specs.declared.commit_fault.CommitFault.TheVariants.{VersionsSpent}
 use Rattle.database.specs.Logs.{JobLog}
-use Rattle.database.specs.Commits.{most_version, counted_bytes, is_large, large_of, large_in, unless_large, version_taken, unless_fault, commit_answer}
+use Rattle.database.specs.Commits.{most_version, is_large, large_of, large_in, unless_large, version_taken, unless_fault, commit_answer}
 use Rattle.database.specs.Dumps.{IsWithin, AreMutationsWithin}
 use Rattle.database.specs.Laws.{CommitLaw}
 
@@ -91,7 +91,7 @@ is_next time pace version logs (m ∷ ms) h = go (nat_lt most_version (time + pa
 fits : (log : JobLog) (muts : List Mutation) → large_of log muts ≡ None → length (mutations_spelling (all_clipped log.ranges muts)) < 2 ^ 32
 fits log muts h = go (is_large (all_clipped log.ranges muts)) refl h
   where
-    go : (b : Bool) → is_large (all_clipped log.ranges muts) ≡ b → cond b (Some (counted_bytes (all_clipped log.ranges muts))) None ≡ None → length (mutations_spelling (all_clipped log.ranges muts)) < 2 ^ 32
+    go : (b : Bool) → is_large (all_clipped log.ranges muts) ≡ b → cond b (Some (length (mutations_spelling (all_clipped log.ranges muts)))) None ≡ None → length (mutations_spelling (all_clipped log.ranges muts)) < 2 ^ 32
     go true e f = cc
     go false e f = below (2 ^ 32) (length (mutations_spelling (all_clipped log.ranges muts))) e
       where

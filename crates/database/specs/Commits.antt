@@ -49,10 +49,6 @@ pub record Database : Type 0 where
 abbrev pub most_version : ℕ
 most_version = most_number
 
--- the mutation bytes of a batch; a count of more than 2 ^ 128 - 1 stops there
-abbrev pub counted_bytes : List Mutation → ℕ
-counted_bytes muts = min (length (mutations_spelling muts)) (2 ^ 128 - 1)
-
 -- a batch has no spelling from 2 ^ 32 mutation bytes on
 abbrev pub is_large : List Mutation → Bool
 is_large muts = nat_le (2 ^ 32) (length (mutations_spelling muts))
@@ -61,7 +57,7 @@ is_large muts = nat_le (2 ^ 32) (length (mutations_spelling muts))
 abbrev pub large_of : JobLog → List Mutation → Option ℕ
 large_of log muts =
     if is_large (all_clipped log.ranges muts)
-    then Some (counted_bytes (all_clipped log.ranges muts)) else None
+    then Some (length (mutations_spelling (all_clipped log.ranges muts))) else None
 
 -- the same for the first of the logs for which they are too many
 abbrev pub large_in : List JobLog → List Mutation → Option ℕ

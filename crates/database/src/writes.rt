@@ -1,13 +1,14 @@
 //! What a commit of operations comes to, and the entry that it makes.
 
-ghost use Rattle.std.specs.Prelude.{◌≡◌, ◌<◌, ◌∷◌, [], ◌++◌, OnOk, OnErr};
+ghost use Rattle.std.specs.Prelude.{◌≡◌, ◌<◌, ◌∷◌, [], ◌++◌, ◌⊎◌, length, Ok, Err, OnOk, OnErr, IfOk, IfErr, IfSome};
+ghost use Rattle.mutations.specs.Spelling.{mutations_spelling};
 ghost use Rattle.std.specs.List.{AllByRecursion};
 ghost use Rattle.mutations.specs.declared.Entry.{Entry};
 ghost use Rattle.mutations.specs.Clipping.{all_clipped};
 ghost use Rattle.mutations.specs.Histories.{batches_of};
 ghost use Rattle.mutations.specs.Transactions.{writes_of};
 ghost use Rattle.versioned_kv.specs.Applied.{Holds};
-ghost use Rattle.database.specs.Commits.{version_taken, large_in, large_of, counted_bytes};
+ghost use Rattle.database.specs.Commits.{version_taken, large_in, large_of};
 
 use crate::{CommitFault, JobLog};
 use fb_bytes::Ranges;
@@ -25,8 +26,11 @@ pub fn version_taken(
     logs: &[JobLog],
     ops: &TxOps,
 ) -> Result<Option<u64>, CommitFault>
-    ensures { result ≡ version_taken versions.entry.now.now versions.entry.now.pace logs.now
-        (writes_of ops.now) }
+    ensures ok { IfOk result (λ version. version_taken versions.entry.now.now
+        versions.entry.now.pace logs.now (writes_of ops.now) ≡ Ok version) }
+    ensures err { IfErr result (λ fault. (fault ≡ CommitFault.NoMemory)
+        ⊎ (version_taken versions.entry.now.now versions.entry.now.pace logs.now
+        (writes_of ops.now) ≡ Err fault)) }
 {
     if !ops.has_writes() {
         return Ok(None);
@@ -37,47 +41,56 @@ pub fn version_taken(
         });
     };
     match large_in(logs, ops.as_slice()) {
-        Some(bytes) => Err(CommitFault::LogTooLarge { bytes }),
-        None => Ok(Some(version)),
+        Ok(Some(bytes)) => Err(CommitFault::LogTooLarge { bytes }),
+        Ok(None) => Ok(Some(version)),
+        Err(AllocError) => Err(CommitFault::NoMemory),
     }
 }
 
 /// The bytes that the first of the logs for which they are too many would take. Nothing is built.
-fn large_in(logs: &[JobLog], ops: &[TxOp]) -> Option<u128>
-    ensures { result ≡ large_in logs.now (writes_of ops.now) }
+fn large_in(logs: &[JobLog], ops: &[TxOp]) -> Result<Option<u128>, AllocError>
+    ensures { IfOk result (λ found. found ≡ large_in logs.now (writes_of ops.now)) }
 {
     for log in logs {
         match large_of(log, ops) {
-            Some(bytes) => return Some(bytes),
-            None => continue,
+            Ok(Some(bytes)) => return Ok(Some(bytes)),
+            Ok(None) => continue,
+            Err(error) => return Err(error),
         }
     }
-    None
+    Ok(None)
 }
 
-fn large_of(log: &JobLog, ops: &[TxOp]) -> Option<u128>
-    ensures { result ≡ large_of log.now (writes_of ops.now) }
+/// The bytes that a log would take, where they are too many. No memory holds as many as can't be
+/// counted.
+fn large_of(log: &JobLog, ops: &[TxOp]) -> Result<Option<u128>, AllocError>
+    ensures { IfOk result (λ found. found ≡ large_of log.now (writes_of ops.now)) }
 {
-    let bytes = clipped_writes(ops, &log.ranges);
-    if bytes < TOO_MANY {
-        return None;
+    match clipped_writes(ops, &log.ranges) {
+        Some(bytes) if bytes < TOO_MANY => Ok(None),
+        Some(bytes) => Ok(Some(bytes)),
+        None => Err(AllocError),
     }
-    Some(bytes)
 }
 
-/// The mutation bytes of what clipping leaves of the writes. A count of more than `u128::MAX` stops
-/// there.
-fn clipped_writes(ops: &[TxOp], ranges: &Ranges) -> u128
-    ensures { result ≡ counted_bytes (all_clipped ranges.now (writes_of ops.now)) }
+/// The mutation bytes of what clipping leaves of the writes. None where they are more than `u128::MAX`,
+/// and may be where they are as many.
+fn clipped_writes(ops: &[TxOp], ranges: &Ranges) -> Option<u128>
+    ensures { IfSome result (λ bytes. bytes
+        ≡ length (mutations_spelling (all_clipped ranges.now (writes_of ops.now)))) }
 {
     let mut total: u128 = 0;
     for op in ops {
         let TxOp::Write(mutation) = op else {
             continue;
         };
-        total = total.saturating_add(clipped_bytes(from_ref(mutation), ranges));
+        let bytes = clipped_bytes(from_ref(mutation), ranges);
+        if bytes == u128::MAX {
+            return None;
+        }
+        total = total.checked_add(bytes)?;
     }
-    total
+    Some(total)
 }
 
 /// Applies an entry to a store, and puts it at the end of the history that the store holds. Without
