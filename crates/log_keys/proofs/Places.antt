@@ -268,8 +268,8 @@ kept_cut job below (r ∷ rs) rise = go (is_key_below r.key (first_at job 0)) re
         cond-true (is_kept job below r) _ _ (ap not up.1)
         ∙ ap (λ (rows : List Row). r ∷ rows) ih
         ∙ sym (
-          ap (λ (n : ℕ). without_cut n (keys_below (first_at job below) (r ∷ rs)) (r ∷ rs)) (cond-true _ (suc (keys_below (first_at job 0) rs)) zero e)
-          ∙ ap (λ (n : ℕ). without_cut (suc (keys_below (first_at job 0) rs)) n (r ∷ rs)) (cond-true _ (suc (keys_below (first_at job below) rs)) zero up.0)
+        ap (λ (n : ℕ). without_cut n (keys_below (first_at job below) (r ∷ rs)) (r ∷ rs)) (cond-true _ (suc (keys_below (first_at job 0) rs)) zero e)
+        ∙ ap (λ (n : ℕ). without_cut (suc (keys_below (first_at job 0) rs)) n (r ∷ rs)) (cond-true _ (suc (keys_below (first_at job below) rs)) zero up.0)
         )
     go false e ih =
         kept_front job below (r ∷ rs) rise (e, none_below (first_at job 0) r.key rs rise.0 e)

@@ -141,3 +141,11 @@ fn a_key_is_a_prefix_and_three_numbers(rt: HostRuntime) -> Result<(), Fail> {
     assert_eq!(rt; key.as_slice(), bytes.as_slice());
     Ok(())
 }
+
+fn crosses<T: Send + Sync>() {}
+
+/// Threads may hand these on and share them.
+#[test]
+fn types_cross_threads() {
+    crosses::<LogKeys>();
+}

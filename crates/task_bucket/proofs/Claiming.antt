@@ -1,12 +1,11 @@
 -- What adding a task, and what a claim, means for the two lists.
-use Rattle.std.proofs.Common.{◌≡◌, ℕ, zero, suc, ◌+◌, ◌<◌, ◌≤◌, Bool, true, false, cond, not, ◌&&◌, ◌||◌, ltb, leb, eqb, List, [], ◌∷◌, ◌++◌, length, take, drop, map, Option, Some, None, refl, sym, ap, subst, ◌∙◌, arith, inl, inr, ◌⊎◌}
+use Rattle.std.proofs.Common.{◌≡◌, ℕ, suc, ◌+◌, ◌<◌, ◌≤◌, Bool, true, false, cond, not, ◌||◌, ltb, leb, eqb, List, [], ◌∷◌, ◌++◌, length, take, drop, map, Option, Some, None, refl, sym, ap, subst, ◌∙◌, arith, inl, inr}
 use Rattle.std.specs.List.{filter, insert}
-use Rattle.std.specs.Option.{option_map}
-use Rattle.std.proofs.lemmas.Bool.{lt-ltb, le-ltb, ltb-true, ltb-false, eqb-true, eq-eqb, cases_lt}
+use Rattle.std.proofs.lemmas.Bool.{le-ltb, ltb-true, ltb-false, eqb-true, eq-eqb, cases_lt}
 use Rattle.fb_bytes.specs.Options.{IsIn}
 use Rattle.task_bucket.specs.declared.held.Held.{Held}
 use Rattle.task_bucket.specs.Lists.{Lease, Slot, Lists, slot_with, lease_with, any_of, has_uid, put_slot, put_lease}
-use Rattle.task_bucket.specs.Claims.{slot_of, lease_of, due, not_due, returned_to, returned, chosen, picked, claimed, with_chosen, leased_out, after_claim}
+use Rattle.task_bucket.specs.Claims.{lease_of, due, not_due, returned_to, returned, chosen, picked, claimed, with_chosen, leased_out, after_claim}
 use Rattle.task_bucket.specs.Held.{slot_in, lease_in, slot_before, lease_before, slots_in, leases_in, lists_in, ArePast, AreRising, until_allows, candidates, is_free, is_idle, place_for, put_held, woken_until, woken, leased_if, put_into}
 use Rattle.std.proofs.lemmas.List.{append-nil, take_all}
 use Rattle.fb_bytes.proofs.Mapped.{drop-all}

@@ -1,18 +1,14 @@
 -- What a change of the one list means for the two.
-use Rattle.std.proofs.Common.{◌≡◌, ℕ, zero, suc, ◌+◌, ◌<◌, ◌≤◌, Bool, true, false, cond, not, ◌&&◌, ◌||◌, ltb, leb, eqb, List, [], ◌∷◌, ◌++◌, length, get_or, take, drop, map, Option, Some, None, min, refl, sym, ap, subst, ◌∙◌, arith, inl, inr, ◌⊎◌}
-use Rattle.std.specs.List.{filter, insert}
+use Rattle.std.proofs.Common.{◌≡◌, ℕ, ◌<◌, Bool, true, false, cond, not, ◌&&◌, ◌||◌, eqb, List, [], ◌∷◌, map, Option, Some, None, refl, sym, ap, subst, ◌∙◌, arith, inl, inr}
+use Rattle.std.specs.List.{filter}
 use Rattle.std.specs.Option.{option_map, option_copied, is_some}
 use denote.Bor.{Bor}
-use Rattle.std.proofs.Math.Seq.{drop-cons}
-use Rattle.std.proofs.lemmas.Bool.{lt-ltb, le-ltb, ltb-true, ltb-false, eqb-true, eq-eqb, ne_eqb, cases_lt, cases_order}
+use Rattle.std.proofs.lemmas.Bool.{lt-ltb, eqb-true}
 use Rattle.fb_bytes.specs.Options.{IsIn}
 use Rattle.task_bucket.specs.declared.held.Held.{Held}
-use Rattle.task_bucket.specs.Lists.{Lease, Slot, Lists, slot_with, lease_with, any_of, has_uid, put_slot, put_lease, without_uid, without_job, is_lease, is_leased, lesser_of, least_until}
-use Rattle.task_bucket.specs.Claims.{slot_of, lease_of, due, not_due, returned_to, returned, chosen, picked, claimed, with_chosen, leased_out, after_claim}
-use Rattle.task_bucket.specs.Leases.{retimed, extended_in, retimed_if, retimed_in, finished_in}
-use Rattle.task_bucket.specs.Held.{slot_in, lease_in, slot_before, lease_before, slots_in, leases_in, lists_in, ArePast, AreRising, until_is, held_is, until_allows, candidate, candidates, is_free, is_idle, place_for, put_held, woken, leased_if, retimed_until, retimed_held, first_held, put_into, least_of}
-use Rattle.fb_bytes.proofs.Mapped.{drop-all}
-use Rattle.task_bucket.proofs.Picks.{picked_in}
+use Rattle.task_bucket.specs.Lists.{Lease, Slot, Lists, slot_with, lease_with, any_of, put_slot, put_lease, without_uid, without_job, is_lease, is_leased}
+use Rattle.task_bucket.specs.Leases.{extended_in, retimed_if, retimed_in, finished_in}
+use Rattle.task_bucket.specs.Held.{slot_in, lease_in, slot_before, lease_before, slots_in, leases_in, lists_in, ArePast, AreRising, until_is, held_is, retimed_until, retimed_held, first_held}
 
 both : List Slot → List Lease → Lists
 both slots leases = record { available = slots; leased = leases }

@@ -1,5 +1,5 @@
 -- What becomes of a lease.
-use Rattle.std.specs.Prelude.{ℕ, Bool, not, List, [], ◌∷◌, Option, Some, None, map, if◌then◌else◌}
+use Rattle.std.specs.Prelude.{ℕ, not, List, [], ◌∷◌, Option, Some, None, map, if◌then◌else◌}
 use Rattle.std.specs.List.{filter}
 use Rattle.task_bucket.specs.Lists.{Lease, Lists, is_lease}
 

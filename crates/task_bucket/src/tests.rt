@@ -110,3 +110,13 @@ fn an_added_task_goes_out_again(rt: HostRuntime) -> Result<(), Fail> {
     assert!(rt; !is_claimed(&mut bucket, 0)?);
     Ok(())
 }
+
+fn crosses<T: Send + Sync>() {}
+
+/// Threads may hand these on and share them.
+#[test]
+fn types_cross_threads() {
+    crosses::<ListBucket>();
+    crosses::<Lease>();
+    crosses::<LeaseFault>();
+}

@@ -1,9 +1,9 @@
 -- Each call keeps what lists of futures keep.
-use Rattle.std.proofs.Common.{◌≡◌, ℕ, zero, suc, ◌+◌, ◌<◌, ◌≤◌, Bool, true, false, not, cond, ◌||◌, ◌&&◌, eqb, List, [], ◌∷◌, ◌++◌, map, max, refl, sym, ap, subst, ◌∙◌, arith}
+use Rattle.std.proofs.Common.{◌≡◌, ℕ, suc, ◌+◌, ◌<◌, ◌≤◌, Bool, true, false, not, cond, ◌||◌, ◌&&◌, eqb, List, [], ◌∷◌, ◌++◌, map, max, refl, sym, ap, subst, ◌∙◌, arith}
 use Rattle.std.specs.List.{filter}
 use Rattle.std.proofs.lemmas.Bool.{eqb-true, eq-eqb, ne_eqb}
 use Rattle.task_kinds.specs.Tasks.{SeenTask}
-use Rattle.task_futures.specs.Futures.{Part, SeenFuture, fresh_with, greatest_number, next_number, blocks_of, is_some_block, is_open, changed, and_block, and_callback, join_blocks, links_of, linked, left, kept_joins, passed_on, settled, settle, unjoined, becomes_set, newly_set}
+use Rattle.task_futures.specs.Futures.{Part, SeenFuture, fresh_with, greatest_number, next_number, blocks_of, is_some_block, is_open, changed, and_block, and_callback, join_blocks, links_of, linked, left, kept_joins, passed_on, settle, unjoined, becomes_set, newly_set}
 use Rattle.task_futures.specs.Laws.{ArePast, AreRising, ArePartsPast, AreForward, HasPassedOn, HavePassedOn, AreFutures, AreKept, is_one_of, has_block, ChangesNothing, FuturesLaw}
 
 -- ---- one more future

@@ -1,10 +1,8 @@
 -- The blocks of a join, one part after the other, and the future at a place.
-use Rattle.std.proofs.Common.{◌≡◌, ℕ, zero, suc, ◌+◌, ◌<◌, ◌≤◌, Bool, true, false, cond, ◌||◌, eqb, List, [], ◌∷◌, ◌++◌, length, get_or, set, take, drop, refl, sym, ap, subst, ◌∙◌, Result, Ok, Err, arith}
-use Rattle.std.proofs.Math.Seq.{drop-cons}
+use Rattle.std.proofs.Common.{◌≡◌, ℕ, suc, ◌+◌, ◌<◌, Bool, true, false, cond, ◌||◌, eqb, List, [], ◌∷◌, ◌++◌, length, get_or, set, take, drop, refl, sym, ap, subst, ◌∙◌, Result, Ok, Err, arith}
 use Rattle.std.specs.Prelude.{OnOk, IfOk}
 use Rattle.std.proofs.lemmas.List.{append-nil, get_or_default, take_all}
-use Rattle.task_kinds.specs.Tasks.{SeenTask}
-use Rattle.task_futures.specs.Futures.{Part, SeenFuture, is_made, blocks_of, changed, place_of, is_open, is_some_block, left, join_blocks, links_of, passed_on, becomes_set, newly_set, settled, settle}
+use Rattle.task_futures.specs.Futures.{SeenFuture, is_made, blocks_of, changed, place_of, is_open, is_some_block, links_of}
 use Rattle.fb_bytes.proofs.Mapped.{drop-all}
 use Rattle.task_futures.specs.Changes.{lesser_count}
 use Rattle.task_futures.specs.Laws.{AreRising, AreFutures}

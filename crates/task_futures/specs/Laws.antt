@@ -1,5 +1,5 @@
 -- What each list of futures keeps that the calls make, and what follows from it.
-use Rattle.std.specs.Prelude.{◌≡◌, ◌<◌, ◌&&◌, ◌||◌, ◌==◌, ℕ, Bool, true, false, List, [], ◌∷◌}
+use Rattle.std.specs.Prelude.{◌≡◌, ◌<◌, ◌&&◌, ◌||◌, ◌==◌, ℕ, Bool, false, List, [], ◌∷◌}
 use Rattle.task_kinds.specs.Tasks.{SeenTask}
 use Rattle.task_futures.specs.Futures.{SeenFuture, Part, with_fresh, with_block, with_callback, joined, unblocked, due_of, without_newest}
 

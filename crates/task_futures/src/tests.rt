@@ -61,3 +61,12 @@ fn a_join_of_a_join(rt: HostRuntime) -> Result<(), Fail> {
     assert!(rt; jobs(&futures, &rt, 1)?.is_empty());
     Ok(())
 }
+
+fn crosses<T: Send + Sync>() {}
+
+/// Threads may hand these on and share them.
+#[test]
+fn types_cross_threads() {
+    crosses::<ListFutures>();
+    crosses::<Tasks>();
+}

@@ -1,4 +1,4 @@
-use Rattle.std.proofs.Common.{sym, ◌∙◌, subst, arith, length, ap}
+use Rattle.std.proofs.Common.{sym, ◌∙◌, subst}
 use Rattle.log_keys.specs.Table.{AreRising}
 use Rattle.log_keys.proofs.Places.{cut_here, uncut_here}
 use Rattle.log_keys.proofs.table.erase.Goals as goal

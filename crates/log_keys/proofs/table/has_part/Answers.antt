@@ -1,4 +1,4 @@
-use Rattle.std.proofs.Common.{◌≡◌, sym, ◌∙◌, arith}
+use Rattle.std.proofs.Common.{sym, ◌∙◌, arith}
 use Rattle.log_keys.proofs.Places.{part_there, part_missing}
 use Rattle.log_keys.proofs.table.has_part.Goals as goal
 

@@ -1,10 +1,9 @@
-use Rattle.std.proofs.Common.{◌≡◌, ◌+◌, arith, subst, sym, ap, ◌∙◌, refl, Some, None, cond, map}
+use Rattle.std.proofs.Common.{◌≡◌, ◌+◌, subst, sym, ap, ◌∙◌, refl, Some, None, cond, map}
 use Rattle.std.specs.Option.{option_map}
-use Rattle.task_bucket.specs.Lists.{Slot}
-use Rattle.task_bucket.specs.Claims.{lease_of, chosen, claimed}
+use Rattle.task_bucket.specs.Claims.{lease_of, chosen}
 use Rattle.task_bucket.specs.Held.{AreRising, slot_in, lists_in, leased_if, woken}
 use Rattle.task_bucket.proofs.Views.{rising_map}
-use Rattle.task_bucket.proofs.Claiming.{GoneBack, gone_if, picked_some, none_claimed, some_claimed}
+use Rattle.task_bucket.proofs.Claiming.{gone_if, picked_some, none_claimed, some_claimed}
 use Rattle.task_bucket.proofs.changes.claim_in.Goals as goal
 
 none : (c : goal.In_default) → chosen c.args.now c.args.pick (lists_in c.args.held.now) ≡ None

@@ -1,4 +1,4 @@
-use Rattle.std.proofs.Common.{sym, ◌∙◌, arith}
+use Rattle.std.proofs.Common.{sym, arith}
 use Rattle.task_bucket.proofs.Finding.{first_there, first_other, first_none}
 use Rattle.task_bucket.proofs.held.find.Goals as goal
 

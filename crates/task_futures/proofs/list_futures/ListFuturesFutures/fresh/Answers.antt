@@ -8,6 +8,6 @@ pub invariant_of-self-2 : goal.invariant_of-self-2
 invariant_of-self-2 c =
     let items = c.self.inside.futures.items in
     let future =
-        c.new-future.ensures ∙ ap (fresh_with c.in_ok-number.number) c.new.ensures.items
-        ∙ ap (λ n. fresh_with n []) (c.in_ok-number.ensures.0 ∙ ap next_number c.deref.ensures.value) in
+    c.new-future.ensures ∙ ap (fresh_with c.in_ok-number.number) c.new.ensures.items
+    ∙ ap (λ n. fresh_with n []) (c.in_ok-number.ensures.0 ∙ ap next_number c.deref.ensures.value) in
     subst AreFutures (sym (c.in_ok-push.ensures.items ∙ ap (λ f. items ++ f ∷ []) future)) (all_kept items c.self.invariant).fresh
