@@ -1,5 +1,19 @@
 -- The keys under which a log keeps its parts, and their order.
-use Rattle.std.specs.Prelude.{ℕ, ◌<◌, ◌^◌, Bool, nat_lt, ◌==◌, ◌&&◌, ◌||◌, [], ◌∷◌, ◌++◌, take, drop}
+use Rattle.std.specs.Prelude.{
+  ℕ,
+  ◌<◌,
+  ◌^◌,
+  Bool,
+  nat_lt,
+  ◌==◌,
+  ◌&&◌,
+  ◌||◌,
+  [],
+  ◌∷◌,
+  ◌++◌,
+  take,
+  drop,
+}
 use Rattle.std.specs.Int.{w32, w64, to_be_bytes, from_be_bytes}
 use Rattle.fb_bytes.specs.Bytes.{Bytes}
 
@@ -21,11 +35,17 @@ prefix = 255 ∷ 2 ∷ 47 ∷ 98 ∷ 108 ∷ 111 ∷ 103 ∷ 47 ∷ []
 
 -- behind the prefix the job, the version and the part, the high byte of each first
 unfoldable pub key_bytes : Key → Bytes
-key_bytes key = prefix ++ to_be_bytes w64 key.job ++ to_be_bytes w64 key.version ++ to_be_bytes w32 key.part
+key_bytes key =
+    prefix ++ to_be_bytes w64 key.job ++ to_be_bytes w64 key.version ++ to_be_bytes w32 key.part
 
 -- the key that has these bytes
 unfoldable pub key_in : Bytes → Key
-key_in bytes = record { job = from_be_bytes w64 (take 8 (drop 8 bytes)); version = from_be_bytes w64 (take 8 (drop 16 bytes)); part = from_be_bytes w32 (drop 24 bytes) }
+key_in bytes =
+    record {
+      job = from_be_bytes w64 (take 8 (drop 8 bytes));
+      version = from_be_bytes w64 (take 8 (drop 16 bytes));
+      part = from_be_bytes w32 (drop 24 bytes);
+    }
 
 -- the first key of a job and a version
 abbrev pub first_at : ℕ → ℕ → Key
@@ -33,4 +53,7 @@ first_at job version = record { job = job; version = version; part = 0 }
 
 -- by job, then by version, then by part
 abbrev pub is_key_below : Key → Key → Bool
-is_key_below a b = nat_lt a.job b.job || ((a.job == b.job) && (nat_lt a.version b.version || ((a.version == b.version) && nat_lt a.part b.part)))
+is_key_below a b =
+    nat_lt a.job b.job
+    || ((a.job == b.job)
+    && (nat_lt a.version b.version || ((a.version == b.version) && nat_lt a.part b.part)))

@@ -1,5 +1,25 @@
 -- What a log holds: a batch for each job and version, and what each call leaves of them.
-use Rattle.std.specs.Prelude.{◌≡◌, ℕ, ◌<◌, Bool, true, false, not, nat_lt, ◌==◌, ◌&&◌, ◌||◌, List, [], ◌∷◌, map, Option, Some, None, if◌then◌else◌}
+use Rattle.std.specs.Prelude.{
+  ◌≡◌,
+  ℕ,
+  ◌<◌,
+  Bool,
+  true,
+  false,
+  not,
+  nat_lt,
+  ◌==◌,
+  ◌&&◌,
+  ◌||◌,
+  List,
+  [],
+  ◌∷◌,
+  map,
+  Option,
+  Some,
+  None,
+  if◌then◌else◌,
+}
 use Rattle.std.specs.List.{AllByRecursion, filter}
 use Rattle.fb_bytes.specs.Bytes.{Bytes}
 use Rattle.mutations.specs.declared.mutation.Mutation.{Mutation}
@@ -20,12 +40,15 @@ is_before job version one = nat_lt one.job job || ((one.job == job) && nat_lt on
 -- the list with one more, in the order of jobs and versions
 abbrev pub with_one : Standing → List Standing → List Standing
 with_one one [] = one ∷ []
-with_one one (other ∷ others) = if is_before one.job one.version other then other ∷ with_one one others else one ∷ other ∷ others
+with_one one (other ∷ others) =
+    if is_before one.job one.version other then other ∷ with_one one others
+    else one ∷ other ∷ others
 
 -- something stands under the job and the version
 abbrev pub stands : ℕ → ℕ → List Standing → Bool
 stands job version [] = false
-stands job version (one ∷ others) = ((one.job == job) && (one.version == version)) || stands job version others
+stands job version (one ∷ others) =
+    ((one.job == job) && (one.version == version)) || stands job version others
 
 -- of the job and of the versions from begin on and before end
 abbrev pub is_between : ℕ → ℕ → ℕ → ℕ → ℕ → Bool
@@ -36,7 +59,8 @@ batch_of one = record { version = one.version; muts = one.muts }
 
 -- the batches of a job from begin on and before end
 abbrev pub batches_between : ℕ → ℕ → ℕ → List Standing → List Batch
-batches_between job begin end log = map batch_of (filter (λ one. is_between job begin end one.job one.version) log)
+batches_between job begin end log =
+    map batch_of (filter (λ one. is_between job begin end one.job one.version) log)
 
 -- of the job and of a version before below
 abbrev pub is_older : ℕ → ℕ → ℕ → ℕ → Bool
@@ -62,17 +86,22 @@ IsBatch bytes = (muts : List Mutation) × Spells bytes muts
 -- each is before the later ones
 abbrev pub AreOrdered : List Standing → Type 0
 AreOrdered [] = Unit {0}
-AreOrdered (one ∷ others) = AllByRecursion (λ later. is_before later.job later.version one ≡ true) others × AreOrdered others
+AreOrdered (one ∷ others) =
+    AllByRecursion (λ later. is_before later.job later.version one ≡ true) others
+    × AreOrdered others
 
 -- the mutations that stand under a job and a version
 abbrev pub logged_at : ℕ → ℕ → List Standing → Option (List Mutation)
 logged_at job version [] = None
-logged_at job version (one ∷ others) = if (one.job == job) && (one.version == version) then Some one.muts else logged_at job version others
+logged_at job version (one ∷ others) =
+    if (one.job == job) && (one.version == version) then Some one.muts
+    else logged_at job version others
 
 -- the mutations of the batch of a version
 abbrev pub batch_at : ℕ → List Batch → Option (List Mutation)
 batch_at version [] = None
-batch_at version (batch ∷ batches) = if batch.version == version then Some batch.muts else batch_at version batches
+batch_at version (batch ∷ batches) =
+    if batch.version == version then Some batch.muts else batch_at version batches
 
 -- its version is past all others of its job
 abbrev pub IsNewest : Standing → List Standing → Type 0

@@ -1,5 +1,31 @@
 -- The table of parts, and the log that it holds.
-use Rattle.std.specs.Prelude.{◌≡◌, ℕ, zero, suc, ◌<◌, Bool, true, false, nat_lt, ◌==◌, ◌&&◌, ◌||◌, List, [], ◌∷◌, ◌++◌, length, map, Option, Some, None, Result, Ok, Err, if◌then◌else◌}
+use Rattle.std.specs.Prelude.{
+  ◌≡◌,
+  ℕ,
+  zero,
+  suc,
+  ◌<◌,
+  Bool,
+  true,
+  false,
+  nat_lt,
+  ◌==◌,
+  ◌&&◌,
+  ◌||◌,
+  List,
+  [],
+  ◌∷◌,
+  ◌++◌,
+  length,
+  map,
+  Option,
+  Some,
+  None,
+  Result,
+  Ok,
+  Err,
+  if◌then◌else◌,
+}
 use Rattle.std.specs.List.{AllByRecursion, filter, flat_map}
 use Rattle.fb_bytes.specs.Bytes.{Bytes}
 use Rattle.mutations.specs.declared.mutation.Mutation.{Mutation}
@@ -21,12 +47,15 @@ abbrev pub goes_on : Whole → Row → Bool
 goes_on whole row = (row.key.job == whole.job) && (row.key.version == whole.version)
 
 abbrev pub with_piece : Whole → Row → Whole
-with_piece whole row = record { job = whole.job; version = whole.version; bytes = whole.bytes ++ row.piece }
+with_piece whole row =
+    record { job = whole.job; version = whole.version; bytes = whole.bytes ++ row.piece }
 
 -- the pieces of each job and version joined, where some are joined so far
 abbrev pub joined_onto : Whole → List Row → List Whole
 joined_onto whole [] = whole ∷ []
-joined_onto whole (row ∷ rows) = if goes_on whole row then joined_onto (with_piece whole row) rows else whole ∷ joined_onto (whole_of row) rows
+joined_onto whole (row ∷ rows) =
+    if goes_on whole row then joined_onto (with_piece whole row) rows
+    else whole ∷ joined_onto (whole_of row) rows
 
 abbrev pub joined : List Row → List Whole
 joined [] = []
@@ -65,12 +94,15 @@ abbrev pub rows_of : Group → List Row
 rows_of group = rows_from group.job group.version 0 group.pieces
 
 abbrev pub is_group_before : ℕ → ℕ → Group → Bool
-is_group_before job version group = nat_lt group.job job || ((group.job == job) && nat_lt group.version version)
+is_group_before job version group =
+    nat_lt group.job job || ((group.job == job) && nat_lt group.version version)
 
 -- by job, then by version, each once
 abbrev pub AreInOrder : List Group → Type 0
 AreInOrder [] = Unit {0}
-AreInOrder (group ∷ groups) = AllByRecursion (λ later. is_group_before later.job later.version group ≡ true) groups × AreInOrder groups
+AreInOrder (group ∷ groups) =
+    AllByRecursion (λ later. is_group_before later.job later.version group ≡ true) groups
+    × AreInOrder groups
 
 -- the bytes are read as a batch
 abbrev pub IsRead : Bytes → Type 0
@@ -84,7 +116,8 @@ pub record IsWhole (group : Group) : Type 0 where
 -- keys rise by job, version and part, which is their byte order
 abbrev pub AreRising : List Row → Type 0
 AreRising [] = Unit {0}
-AreRising (row ∷ rows) = AllByRecursion (λ later. is_key_below row.key later.key ≡ true) rows × AreRising rows
+AreRising (row ∷ rows) =
+    AllByRecursion (λ later. is_key_below row.key later.key ≡ true) rows × AreRising rows
 
 -- The parts of whole batches, in the order of their keys, the parts of each batch numbered from 0.
 pub record IsTable (rows : List Row) : Type 0 where
@@ -104,8 +137,10 @@ keys_below key (row ∷ rows) = if is_key_below row.key key then suc (keys_below
 -- some row is of the job and the version
 abbrev pub has_part : ℕ → ℕ → List Row → Bool
 has_part job version [] = false
-has_part job version (row ∷ rows) = ((row.key.job == job) && (row.key.version == version)) || has_part job version rows
+has_part job version (row ∷ rows) =
+    ((row.key.job == job) && (row.key.version == version)) || has_part job version rows
 
 -- the rows of a job from begin on and before end
 abbrev pub rows_between : ℕ → ℕ → ℕ → List Row → List Row
-rows_between job begin end rows = filter (λ row. is_between job begin end row.key.job row.key.version) rows
+rows_between job begin end rows =
+    filter (λ row. is_between job begin end row.key.job row.key.version) rows

@@ -27,7 +27,8 @@ pub fn all_joined(alloc: Global, rows: &[Row]) -> Result<Vec<Whole>, AllocError>
 
 /// Takes one more row in. It gives what is being joined then.
 fn taken(wholes: &mut Vec<Whole>, last: Option<Whole>, row: &Row) -> Result<Whole, AllocError>
-    ensures { IfOk result (λ whole. (rows : List Row) → wholes.new.items ++ joined_onto whole rows ≡ wholes.old.items ++ joined_with last (row.now ∷ rows)) }
+    ensures { IfOk result (λ whole. (rows : List Row) → wholes.new.items ++ joined_onto whole rows
+        ≡ wholes.old.items ++ joined_with last (row.now ∷ rows)) }
 {
     let Some(whole) = last else {
         return begun(row);

@@ -58,7 +58,8 @@ impl LogKey {
 
 #[tactic(auto, unfolding(crate::specs::Keys::key_bytes))]
 fn bytes_of(alloc: Global, job: u64, version: u64, part: u32) -> Result<Blob, AllocError>
-    ensures { IfOk result (λ bytes. bytes ≡ key_bytes (record { job = job; version = version; part = part })) }
+    ensures { IfOk result
+        (λ bytes. bytes ≡ key_bytes (record { job = job; version = version; part = part })) }
 {
     let mut bytes = Blob::from_slice(alloc, PREFIX)?;
     bytes.extend_from_slice(&job.to_be_bytes())?;

@@ -66,7 +66,8 @@ impl LogKeys {
         requires some { 0 < part }
         requires few { length batch.now ≤ 2 ^ 32 * part }
         requires free { stands job version self.old ≡ false }
-        ensures ok { OnOk result ((muts : List Mutation) → Spells batch.now muts → self.new ≡ with_one (record { job = job; version = version; muts = muts }) self.old) }
+        ensures ok { OnOk result ((muts : List Mutation) → Spells batch.now muts
+            → self.new ≡ with_one (record { job = job; version = version; muts = muts }) self.old) }
         ensures err { OnErr result (self.new ≡ self.old) }
     {
         let alloc = *self.rows.allocator();
@@ -78,7 +79,13 @@ impl LogKeys {
 
     /// What stands under a job from the version `begin` on and before `end`.
     pub fn join(&self, job: u64, begin: u64, end: u64) -> Result<LogChunk, AllocError>
-        ensures { IfOk result (λ chunk. chunk ≡ record { begin = begin; end = end; batches = batches_between job begin end self.now }) }
+        ensures { IfOk result
+            (λ chunk. chunk
+            ≡ record {
+              begin = begin;
+              end = end;
+              batches = batches_between job begin end self.now;
+            }) }
     {
         let alloc = *self.rows.allocator();
         let rows = rows_between(&self.rows, job, begin, end);

@@ -22,7 +22,8 @@ pub fn parts_of(
 ) -> Result<Vec<Row>, AllocError>
     requires some { 0 < part }
     requires few { length batch.now ≤ 2 ^ 32 * part }
-    ensures { IfOk result (λ rows. rows.items ≡ rows_from job version 0 (pieces_of part batch.now)) }
+    ensures { IfOk result
+        (λ rows. rows.items ≡ rows_from job version 0 (pieces_of part batch.now)) }
 {
     let mut rows = Vec::new(alloc);
     let mut rest = batch;
@@ -40,7 +41,11 @@ pub fn parts_of(
 }
 
 fn row_of(alloc: Global, job: u64, version: u64, part: u32, piece: &[u8]) -> Result<Row, AllocError>
-    ensures { IfOk result (λ row. row ≡ record { key = record { job = job; version = version; part = part }; piece = piece.now }) }
+    ensures { IfOk result
+        (λ row. row ≡ record {
+          key = record { job = job; version = version; part = part };
+          piece = piece.now;
+        }) }
 {
     let key = LogKey::new(alloc, job, version, part)?;
     let piece = Blob::from_slice(alloc, piece)?;
@@ -82,7 +87,8 @@ pub fn has_part(rows: &[Row], job: u64, version: u64) -> bool
 /// Puts rows in at a place. Without memory nothing changes.
 pub fn insert_all(rows: &mut Vec<Row>, place: usize, more: Vec<Row>) -> Result<(), AllocError>
     requires { place ≤ length rows.old.items }
-    ensures ok { OnOk result (rows.new.items ≡ take place rows.old.items ++ more.items ++ drop place rows.old.items) }
+    ensures ok { OnOk result (rows.new.items ≡ take place rows.old.items ++ more.items
+        ++ drop place rows.old.items) }
     ensures err { OnErr result (rows.new.items ≡ rows.old.items) }
 {
     let mut more = more;
@@ -95,7 +101,8 @@ pub fn insert_all(rows: &mut Vec<Row>, place: usize, more: Vec<Row>) -> Result<(
 /// Takes the parts of a job out that are of versions before `below`, which stand side by side.
 pub fn erase(rows: &mut Vec<Row>, job: u64, below: u64)
     requires { AreRising rows.old.items }
-    ensures { rows.new.items ≡ filter (λ row. not (is_older job below row.key.job row.key.version)) rows.old.items }
+    ensures { rows.new.items
+        ≡ filter (λ row. not (is_older job below row.key.job row.key.version)) rows.old.items }
 {
     let first = place_of(rows, job, 0);
     let last = place_of(rows, job, below);

@@ -1,5 +1,21 @@
 -- What a claim takes.
-use Rattle.std.specs.Prelude.{ℕ, ◌+◌, Bool, true, not, List, [], ◌∷◌, Option, Some, None, option_map, nat_lt, nat_le, if◌then◌else◌}
+use Rattle.std.specs.Prelude.{
+  ℕ,
+  ◌+◌,
+  Bool,
+  true,
+  not,
+  List,
+  [],
+  ◌∷◌,
+  Option,
+  Some,
+  None,
+  option_map,
+  nat_lt,
+  nat_le,
+  if◌then◌else◌,
+}
 use Rattle.std.specs.List.{filter}
 use Rattle.fb_bytes.specs.Options.{best_of}
 use Rattle.task_bucket.specs.Lists.{Lease, Slot, Lists, slot_with, put_lease}
@@ -52,7 +68,11 @@ claimed now length pick lists = option_map (lease_of (now + length)) (chosen now
 
 -- the task goes from one list to the other
 abbrev pub leased_out : ℕ → Slot → Lists → Lists
-leased_out until slot lists = record { available = filter (λ s. not (slot_with slot.uid s)) lists.available; leased = put_lease (lease_of until slot) lists.leased }
+leased_out until slot lists =
+    record {
+      available = filter (λ s. not (slot_with slot.uid s)) lists.available;
+      leased = put_lease (lease_of until slot) lists.leased;
+    }
 
 abbrev pub with_chosen : ℕ → Option Slot → Lists → Lists → Lists
 with_chosen until None old lists = old
@@ -60,4 +80,5 @@ with_chosen until (Some slot) old lists = leased_out until slot lists
 
 -- the lists after a claim
 abbrev pub after_claim : ℕ → ℕ → ℕ → Lists → Lists
-after_claim now length pick lists = with_chosen (now + length) (chosen now pick lists) lists (returned now lists)
+after_claim now length pick lists =
+    with_chosen (now + length) (chosen now pick lists) lists (returned now lists)

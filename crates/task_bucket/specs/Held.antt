@@ -1,5 +1,23 @@
 -- One list of tasks, and the two lists that it stands for.
-use Rattle.std.specs.Prelude.{ℕ, ◌+◌, ◌<◌, Bool, true, false, ◌&&◌, List, [], ◌∷◌, Option, Some, None, nat_lt, nat_le, ◌==◌, if◌then◌else◌}
+use Rattle.std.specs.Prelude.{
+  ℕ,
+  ◌+◌,
+  ◌<◌,
+  Bool,
+  true,
+  false,
+  ◌&&◌,
+  List,
+  [],
+  ◌∷◌,
+  Option,
+  Some,
+  None,
+  nat_lt,
+  nat_le,
+  ◌==◌,
+  if◌then◌else◌,
+}
 use Rattle.task_bucket.specs.declared.held.Held.{Held}
 use Rattle.task_bucket.specs.Lists.{Lease, Slot, Lists, added, added_asleep, lesser_of}
 
@@ -56,7 +74,8 @@ candidate now idle held = until_allows now idle held.until
 
 abbrev pub candidates : ℕ → Bool → List Held → List Slot
 candidates now idle [] = []
-candidates now idle (h ∷ hs) = if candidate now idle h then slot_in h ∷ candidates now idle hs else candidates now idle hs
+candidates now idle (h ∷ hs) =
+    if candidate now idle h then slot_in h ∷ candidates now idle hs else candidates now idle hs
 
 abbrev pub is_free : Option ℕ → Bool
 is_free None = true
@@ -92,15 +111,26 @@ woken now held = record { uid = held.uid; until = woken_until now held.until; ta
 
 -- leased, where it has that uid
 abbrev pub leased_if : ℕ → ℕ → Held → Held
-leased_if uid until held = record { uid = held.uid; until = if held.uid == uid then Some until else held.until; task = held.task }
+leased_if uid until held =
+    record {
+      uid = held.uid;
+      until = if held.uid == uid then Some until else held.until;
+      task = held.task;
+    }
 
 abbrev pub retimed_until : ℕ → ℕ → ℕ → ℕ → Option ℕ → Option ℕ
 retimed_until until uid new its None = None
-retimed_until until uid new its (Some leased) = if leased == until && its == uid then Some new else Some leased
+retimed_until until uid new its (Some leased) =
+    if leased == until && its == uid then Some new else Some leased
 
 -- with another until, where it is that lease
 abbrev pub retimed_held : ℕ → ℕ → ℕ → Held → Held
-retimed_held until uid new held = record { uid = held.uid; until = retimed_until until uid new held.uid held.until; task = held.task }
+retimed_held until uid new held =
+    record {
+      uid = held.uid;
+      until = retimed_until until uid new held.uid held.until;
+      task = held.task;
+    }
 
 abbrev pub first_held : ℕ → ℕ → List Held → Option Held
 first_held until uid [] = None

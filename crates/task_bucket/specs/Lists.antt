@@ -1,5 +1,22 @@
 -- The two lists of a bucket, each in the order of the uids.
-use Rattle.std.specs.Prelude.{ℕ, Bool, false, not, ◌&&◌, ◌||◌, List, [], ◌∷◌, Option, Some, None, min, nat_lt, ◌==◌, if◌then◌else◌}
+use Rattle.std.specs.Prelude.{
+  ℕ,
+  Bool,
+  false,
+  not,
+  ◌&&◌,
+  ◌||◌,
+  List,
+  [],
+  ◌∷◌,
+  Option,
+  Some,
+  None,
+  min,
+  nat_lt,
+  ◌==◌,
+  if◌then◌else◌,
+}
 use Rattle.std.specs.List.{filter}
 use Rattle.task_kinds.specs.Tasks.{SeenTask}
 pub use Rattle.task_bucket.specs.declared.lease.Lease.{Lease}
@@ -40,17 +57,33 @@ put_lease lease [] = lease ∷ []
 put_lease lease (l ∷ ls) = if nat_lt lease.uid l.uid then lease ∷ l ∷ ls else l ∷ put_lease lease ls
 
 abbrev pub added : ℕ → SeenTask → Lists → Lists
-added uid task lists = record { available = put_slot (record { uid = uid; task = task }) lists.available; leased = lists.leased }
+added uid task lists =
+    record {
+      available = put_slot (record { uid = uid; task = task }) lists.available;
+      leased = lists.leased;
+    }
 
 abbrev pub added_asleep : ℕ → ℕ → SeenTask → Lists → Lists
-added_asleep until uid task lists = record { available = lists.available; leased = put_lease (record { until = until; uid = uid; task = task }) lists.leased }
+added_asleep until uid task lists =
+    record {
+      available = lists.available;
+      leased = put_lease (record { until = until; uid = uid; task = task }) lists.leased;
+    }
 
 -- both lists without a uid, and without the tasks of a job
 abbrev pub without_uid : ℕ → Lists → Lists
-without_uid uid lists = record { available = filter (λ s. not (slot_with uid s)) lists.available; leased = filter (λ l. not (lease_with uid l)) lists.leased }
+without_uid uid lists =
+    record {
+      available = filter (λ s. not (slot_with uid s)) lists.available;
+      leased = filter (λ l. not (lease_with uid l)) lists.leased;
+    }
 
 abbrev pub without_job : ℕ → Lists → Lists
-without_job job lists = record { available = filter (λ s. not (s.task.job == job)) lists.available; leased = filter (λ l. not (l.task.job == job)) lists.leased }
+without_job job lists =
+    record {
+      available = filter (λ s. not (s.task.job == job)) lists.available;
+      leased = filter (λ l. not (l.task.job == job)) lists.leased;
+    }
 
 -- until this version, with this uid
 abbrev pub is_lease : ℕ → ℕ → Lease → Bool

@@ -40,15 +40,21 @@ pub trait Bucket {
     /// Gives a lease the until `now + length`.
     fn extend(&mut self, lease: &Lease, now: u64, length: u64) -> Result<Lease, LeaseFault>
         requires { now + length < 2 ^ 63 }
-        ensures interrupted { IsErrOf result (LeaseFault.Interrupted lease.now.uid) ↔ (is_leased lease.now.until lease.now.uid (lists self.old) ≡ false) }
-        ensures answer { IfOk result (λ new. extended lease.now (now + length) (lists self.old) ≡ Some new) }
-        ensures ok { OnOk result (lists self.new ≡ after_extend lease.now (now + length) (lists self.old)) }
-        ensures err { IfErr result (λ fault. (fault ≡ LeaseFault.Interrupted lease.now.uid) ⊎ (fault ≡ LeaseFault.NoMemory)) }
+        ensures interrupted { IsErrOf result (LeaseFault.Interrupted lease.now.uid)
+            ↔ (is_leased lease.now.until lease.now.uid (lists self.old) ≡ false) }
+        ensures answer { IfOk result (λ new. extended lease.now (now + length) (lists self.old)
+            ≡ Some new) }
+        ensures ok { OnOk result
+            (lists self.new ≡ after_extend lease.now (now + length) (lists self.old)) }
+        ensures err { IfErr result (λ fault. (fault ≡ LeaseFault.Interrupted lease.now.uid)
+            ⊎ (fault ≡ LeaseFault.NoMemory)) }
         ensures unchanged { OnErr result (lists self.new ≡ lists self.old) };
 
     /// Takes a leased task out of the bucket. It takes no memory.
     fn finish(&mut self, lease: &Lease) -> Result<(), LeaseFault>
-        ensures answer { result ≡ (if is_leased lease.now.until lease.now.uid (lists self.old) then Ok tt else Err (LeaseFault.Interrupted lease.now.uid)) }
+        ensures answer { result
+            ≡ (if is_leased lease.now.until lease.now.uid (lists self.old) then Ok tt
+            else Err (LeaseFault.Interrupted lease.now.uid)) }
         ensures lists { lists self.new ≡ after_finish lease.now (lists self.old) };
 
     /// Whether the task is leased until that version. It takes no memory.

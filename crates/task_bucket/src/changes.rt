@@ -16,7 +16,8 @@ pub fn put(held: &mut Vec<Held>, one: Held) -> Result<(), AllocError>
     requires rising { AreRising held.old.items }
     requires fresh { has_uid one.uid (lists_in held.old.items) ≡ false }
     ensures rising { AreRising held.new.items }
-    ensures ok { OnOk result (lists_in held.new.items ≡ put_into one.until one (lists_in held.old.items)) }
+    ensures ok { OnOk result
+        (lists_in held.new.items ≡ put_into one.until one (lists_in held.old.items)) }
     ensures err { OnErr result (held.new.items ≡ held.old.items) }
 {
     let at = place_for(held, one.uid);
@@ -54,8 +55,10 @@ pub fn claim_from(
     requires rising { AreRising held.old.items }
     requires bound { now + lease < 2 ^ 63 }
     ensures rising { AreRising held.new.items }
-    ensures answer { IfOk result (λ found. found ≡ claimed now lease pick (lists_in held.old.items)) }
-    ensures ok { OnOk result (lists_in held.new.items ≡ after_claim now lease pick (lists_in held.old.items)) }
+    ensures answer { IfOk result
+        (λ found. found ≡ claimed now lease pick (lists_in held.old.items)) }
+    ensures ok { OnOk result
+        (lists_in held.new.items ≡ after_claim now lease pick (lists_in held.old.items)) }
     ensures err { OnErr result (held.new.items ≡ held.old.items) }
 {
     claim_in(held, now, lease, pick)
@@ -64,10 +67,13 @@ pub fn claim_from(
 fn retimed(held: &mut [Held], until: u64, uid: u64, new: u64) -> Result<Lease, LeaseFault>
     requires { AreRising held.old }
     ensures rising { AreRising held.new }
-    ensures interrupted { IsErrOf result (LeaseFault.Interrupted uid) ↔ (is_leased until uid (lists_in held.old) ≡ false) }
-    ensures answer { IfOk result (λ lease. extended_in until uid new (lists_in held.old).leased ≡ Some lease) }
+    ensures interrupted { IsErrOf result (LeaseFault.Interrupted uid)
+        ↔ (is_leased until uid (lists_in held.old) ≡ false) }
+    ensures answer { IfOk result (λ lease. extended_in until uid new (lists_in held.old).leased
+        ≡ Some lease) }
     ensures ok { OnOk result (lists_in held.new ≡ retimed_in until uid new (lists_in held.old)) }
-    ensures err { IfErr result (λ fault. (fault ≡ LeaseFault.Interrupted uid) ⊎ (fault ≡ LeaseFault.NoMemory)) }
+    ensures err { IfErr result (λ fault. (fault ≡ LeaseFault.Interrupted uid)
+        ⊎ (fault ≡ LeaseFault.NoMemory)) }
     ensures unchanged { OnErr result (held.new ≡ held.old) }
 {
     let Some(one) = find(held, until, uid) else {
@@ -86,10 +92,14 @@ fn retimed(held: &mut [Held], until: u64, uid: u64, new: u64) -> Result<Lease, L
 pub fn extend_in(held: &mut Vec<Held>, until: u64, uid: u64, new: u64) -> Result<Lease, LeaseFault>
     requires { AreRising held.old.items }
     ensures rising { AreRising held.new.items }
-    ensures interrupted { IsErrOf result (LeaseFault.Interrupted uid) ↔ (is_leased until uid (lists_in held.old.items) ≡ false) }
-    ensures answer { IfOk result (λ lease. extended_in until uid new (lists_in held.old.items).leased ≡ Some lease) }
-    ensures ok { OnOk result (lists_in held.new.items ≡ retimed_in until uid new (lists_in held.old.items)) }
-    ensures err { IfErr result (λ fault. (fault ≡ LeaseFault.Interrupted uid) ⊎ (fault ≡ LeaseFault.NoMemory)) }
+    ensures interrupted { IsErrOf result (LeaseFault.Interrupted uid)
+        ↔ (is_leased until uid (lists_in held.old.items) ≡ false) }
+    ensures answer { IfOk result
+        (λ lease. extended_in until uid new (lists_in held.old.items).leased ≡ Some lease) }
+    ensures ok { OnOk result
+        (lists_in held.new.items ≡ retimed_in until uid new (lists_in held.old.items)) }
+    ensures err { IfErr result (λ fault. (fault ≡ LeaseFault.Interrupted uid)
+        ⊎ (fault ≡ LeaseFault.NoMemory)) }
     ensures unchanged { OnErr result (held.new.items ≡ held.old.items) }
 {
     retimed(held, until, uid, new)
@@ -117,7 +127,9 @@ fn keep_other_uids(held: &mut Vec<Held>, uid: u64)
 pub fn finish_in(held: &mut Vec<Held>, until: u64, uid: u64) -> Result<(), LeaseFault>
     requires { AreRising held.old.items }
     ensures rising { AreRising held.new.items }
-    ensures answer { result ≡ (if is_leased until uid (lists_in held.old.items) then Ok tt else Err (LeaseFault.Interrupted uid)) }
+    ensures answer { result
+        ≡ (if is_leased until uid (lists_in held.old.items) then Ok tt
+        else Err (LeaseFault.Interrupted uid)) }
     ensures lists { lists_in held.new.items ≡ finished_in until uid (lists_in held.old.items) }
 {
     let found = is_leased(held, until, uid);

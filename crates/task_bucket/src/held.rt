@@ -109,7 +109,8 @@ fn place_of(held: &[Held], uid: u64) -> usize
 
 // The later one, if it isn't past the pick or is the first.
 fn better<'a>(best: Option<&'a Held>, one: &'a Held, pick: u64) -> Option<&'a Held>
-    ensures { option_map slot_in (option_copied result) ≡ step_of pick (slot_in one.now) (option_map slot_in (option_copied best.entry)) }
+    ensures { option_map slot_in (option_copied result)
+        ≡ step_of pick (slot_in one.now) (option_map slot_in (option_copied best.entry)) }
 {
     match best {
         Some(other) if pick < one.uid => Some(other),
@@ -120,7 +121,8 @@ fn better<'a>(best: Option<&'a Held>, one: &'a Held, pick: u64) -> Option<&'a He
 /// The one to claim: that with the greatest uid at or below the pick, else the first.
 pub fn picked(held: &[Held], now: u64, idle: bool, pick: u64) -> Option<&Held>
     requires { AreRising held.now }
-    ensures { option_map slot_in (option_copied result) ≡ picked pick (candidates now idle held.now) }
+    ensures { option_map slot_in (option_copied result)
+        ≡ picked pick (candidates now idle held.now) }
 {
     let mut best: Option<&Held> = None;
     for one in held {

@@ -5,13 +5,25 @@ use Rattle.task_futures.specs.Futures.{SeenFuture, Part, is_part}
 
 -- without the block of a part
 abbrev pub cleared : Part → SeenFuture → SeenFuture
-cleared part f = record { number = f.number; blocks = filter (λ b. not (is_part f.number b part)) f.blocks; callbacks = f.callbacks; joins = f.joins }
+cleared part f =
+    record {
+      number = f.number;
+      blocks = filter (λ b. not (is_part f.number b part)) f.blocks;
+      callbacks = f.callbacks;
+      joins = f.joins;
+    }
 
 abbrev pub emptied : SeenFuture → SeenFuture
 emptied f = record { number = f.number; blocks = f.blocks; callbacks = f.callbacks; joins = [] }
 
 abbrev pub and_join : Part → SeenFuture → SeenFuture
-and_join part f = record { number = f.number; blocks = f.blocks; callbacks = f.callbacks; joins = f.joins ++ part ∷ [] }
+and_join part f =
+    record {
+      number = f.number;
+      blocks = f.blocks;
+      callbacks = f.callbacks;
+      joins = f.joins ++ part ∷ [];
+    }
 
 abbrev pub is_lesser : ℕ → SeenFuture → Bool
 is_lesser number f = nat_lt f.number number

@@ -1,5 +1,22 @@
 -- Futures with their blocks, tasks and joins, in the order of their numbers.
-use Rattle.std.specs.Prelude.{ℕ, ◌+◌, Bool, true, false, not, ◌&&◌, ◌||◌, List, [], ◌∷◌, ◌++◌, map, max, ◌==◌, if◌then◌else◌}
+use Rattle.std.specs.Prelude.{
+  ℕ,
+  ◌+◌,
+  Bool,
+  true,
+  false,
+  not,
+  ◌&&◌,
+  ◌||◌,
+  List,
+  [],
+  ◌∷◌,
+  ◌++◌,
+  map,
+  max,
+  ◌==◌,
+  if◌then◌else◌,
+}
 use Rattle.std.specs.List.{filter}
 use Rattle.task_kinds.specs.Tasks.{SeenTask}
 pub use Rattle.task_futures.specs.declared.part.Part.{Part}
@@ -60,7 +77,8 @@ next_block_of number fs = next_block (blocks_of number fs)
 -- the list where the future with a number is changed
 abbrev pub changed : ℕ → (SeenFuture → SeenFuture) → List SeenFuture → List SeenFuture
 changed number change [] = []
-changed number change (f ∷ fs) = if f.number == number then change f ∷ fs else f ∷ changed number change fs
+changed number change (f ∷ fs) =
+    if f.number == number then change f ∷ fs else f ∷ changed number change fs
 
 -- where it stands
 abbrev pub place_of : ℕ → List SeenFuture → ℕ
@@ -73,13 +91,25 @@ abbrev pub with_fresh : List SeenFuture → List SeenFuture
 with_fresh fs = fs ++ fresh_with (next_number fs) [] ∷ []
 
 abbrev pub and_block : SeenFuture → SeenFuture
-and_block f = record { number = f.number; blocks = f.blocks ++ next_block f.blocks ∷ []; callbacks = f.callbacks; joins = f.joins }
+and_block f =
+    record {
+      number = f.number;
+      blocks = f.blocks ++ next_block f.blocks ∷ [];
+      callbacks = f.callbacks;
+      joins = f.joins;
+    }
 
 abbrev pub with_block : ℕ → List SeenFuture → List SeenFuture
 with_block number fs = changed number and_block fs
 
 abbrev pub and_callback : SeenTask → SeenFuture → SeenFuture
-and_callback task f = record { number = f.number; blocks = f.blocks; callbacks = f.callbacks ++ task ∷ []; joins = f.joins }
+and_callback task f =
+    record {
+      number = f.number;
+      blocks = f.blocks;
+      callbacks = f.callbacks ++ task ∷ [];
+      joins = f.joins;
+    }
 
 abbrev pub with_callback : ℕ → SeenTask → List SeenFuture → List SeenFuture
 with_callback number task fs = changed number (and_callback task) fs
@@ -89,19 +119,30 @@ with_callback number task fs = changed number (and_callback task) fs
 -- the blocks of a join: one for each part that isn't set, counted on from a number
 abbrev pub join_blocks : ℕ → List ℕ → List SeenFuture → List ℕ
 join_blocks block [] fs = []
-join_blocks block (p ∷ ps) fs = if is_open p fs then block ∷ join_blocks (block + 1) ps fs else join_blocks block ps fs
+join_blocks block (p ∷ ps) fs =
+    if is_open p fs then block ∷ join_blocks (block + 1) ps fs else join_blocks block ps fs
 
 -- those of them that fall with one part
 abbrev pub links_of : ℕ → ℕ → ℕ → List ℕ → List SeenFuture → List Part
 links_of part join block [] fs = []
 links_of part join block (p ∷ ps) fs =
-    if is_open p fs then (if p == part then record { join = join; block = block } ∷ links_of part join (block + 1) ps fs else links_of part join (block + 1) ps fs) else links_of part join block ps fs
+    if is_open p fs
+    then (if p == part
+    then record { join = join; block = block } ∷ links_of part join (block + 1) ps fs
+    else links_of part join (block + 1) ps fs) else links_of part join block ps fs
 
 abbrev pub linked : List ℕ → List SeenFuture → SeenFuture → SeenFuture
-linked parts fs f = record { number = f.number; blocks = f.blocks; callbacks = f.callbacks; joins = f.joins ++ links_of f.number (next_number fs) 1 parts fs }
+linked parts fs f =
+    record {
+      number = f.number;
+      blocks = f.blocks;
+      callbacks = f.callbacks;
+      joins = f.joins ++ links_of f.number (next_number fs) 1 parts fs;
+    }
 
 abbrev pub joined : List ℕ → List SeenFuture → List SeenFuture
-joined parts fs = map (linked parts fs) fs ++ fresh_with (next_number fs) (join_blocks 1 parts fs) ∷ []
+joined parts fs =
+    map (linked parts fs) fs ++ fresh_with (next_number fs) (join_blocks 1 parts fs) ∷ []
 
 -- ---- unblocking
 
@@ -116,7 +157,8 @@ falls (p ∷ ps) number block = is_part number block p || falls ps number block
 abbrev pub left : List Part → ℕ → List ℕ → List ℕ
 left pending number blocks = filter (λ b. not (falls pending number b)) blocks
 
--- A future that is set passes its joins on, and keeps none. Parts have lesser numbers than joins, so
+-- A future that is set passes its joins on, and keeps none. Parts have lesser numbers than joins,
+-- so
 -- one way through the list settles all.
 abbrev pub kept_joins : List ℕ → List Part → List Part
 kept_joins [] joins = []
@@ -127,15 +169,29 @@ passed_on [] joins pending = pending ++ joins
 passed_on (b ∷ bs) joins pending = pending
 
 abbrev pub settled : List Part → SeenFuture → SeenFuture
-settled pending f = record { number = f.number; blocks = left pending f.number f.blocks; callbacks = f.callbacks; joins = kept_joins (left pending f.number f.blocks) f.joins }
+settled pending f =
+    record {
+      number = f.number;
+      blocks = left pending f.number f.blocks;
+      callbacks = f.callbacks;
+      joins = kept_joins (left pending f.number f.blocks) f.joins;
+    }
 
 -- without the blocks that fall
 abbrev pub cleared_by : List Part → SeenFuture → SeenFuture
-cleared_by pending f = record { number = f.number; blocks = left pending f.number f.blocks; callbacks = f.callbacks; joins = f.joins }
+cleared_by pending f =
+    record {
+      number = f.number;
+      blocks = left pending f.number f.blocks;
+      callbacks = f.callbacks;
+      joins = f.joins;
+    }
 
 -- the first passes its joins on to the others, where it is set
 abbrev pub first_settled : List ℕ → SeenFuture → List SeenFuture → List SeenFuture
-first_settled [] f fs = record { number = f.number; blocks = []; callbacks = f.callbacks; joins = [] } ∷ map (cleared_by f.joins) fs
+first_settled [] f fs =
+    record { number = f.number; blocks = []; callbacks = f.callbacks; joins = [] } ∷ map
+    (cleared_by f.joins) fs
 first_settled (b ∷ bs) f fs = f ∷ fs
 
 abbrev pub head_settled : List SeenFuture → List SeenFuture
@@ -144,7 +200,8 @@ head_settled (f ∷ fs) = first_settled f.blocks f fs
 
 abbrev pub settle : List Part → List SeenFuture → List SeenFuture
 settle pending [] = []
-settle pending (f ∷ fs) = settled pending f ∷ settle (passed_on (left pending f.number f.blocks) f.joins pending) fs
+settle pending (f ∷ fs) =
+    settled pending f ∷ settle (passed_on (left pending f.number f.blocks) f.joins pending) fs
 
 abbrev pub unblocked : ℕ → ℕ → List SeenFuture → List SeenFuture
 unblocked number block fs = settle (record { join = number; block = block } ∷ []) fs
@@ -156,7 +213,8 @@ becomes_set before after = is_some_block before && not (is_some_block after)
 abbrev pub newly_set : List SeenFuture → List SeenFuture → List SeenTask
 newly_set [] gs = []
 newly_set (f ∷ fs) [] = []
-newly_set (f ∷ fs) (g ∷ gs) = (if becomes_set f.blocks g.blocks then f.callbacks else []) ++ newly_set fs gs
+newly_set (f ∷ fs) (g ∷ gs) =
+    (if becomes_set f.blocks g.blocks then f.callbacks else []) ++ newly_set fs gs
 
 abbrev pub due_of : ℕ → ℕ → List SeenFuture → List SeenTask
 due_of number block fs = newly_set fs (unblocked number block fs)
@@ -164,7 +222,13 @@ due_of number block fs = newly_set fs (unblocked number block fs)
 -- ---- taking out
 
 abbrev pub unjoined : ℕ → SeenFuture → SeenFuture
-unjoined number f = record { number = f.number; blocks = f.blocks; callbacks = f.callbacks; joins = filter (λ p. not (p.join == number)) f.joins }
+unjoined number f =
+    record {
+      number = f.number;
+      blocks = f.blocks;
+      callbacks = f.callbacks;
+      joins = filter (λ p. not (p.join == number)) f.joins;
+    }
 
 abbrev pub without_number : ℕ → List SeenFuture → List SeenFuture
 without_number number fs = map (unjoined number) (filter (λ f. not (f.number == number)) fs)

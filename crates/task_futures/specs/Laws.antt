@@ -1,7 +1,17 @@
 -- What each list of futures keeps that the calls make, and what follows from it.
 use Rattle.std.specs.Prelude.{◌≡◌, ◌<◌, ◌&&◌, ◌||◌, ◌==◌, ℕ, Bool, false, List, [], ◌∷◌}
 use Rattle.task_kinds.specs.Tasks.{SeenTask}
-use Rattle.task_futures.specs.Futures.{SeenFuture, Part, with_fresh, with_block, with_callback, joined, unblocked, due_of, without_newest}
+use Rattle.task_futures.specs.Futures.{
+  SeenFuture,
+  Part,
+  with_fresh,
+  with_block,
+  with_callback,
+  joined,
+  unblocked,
+  due_of,
+  without_newest,
+}
 
 -- all of these have greater numbers
 abbrev pub ArePast : ℕ → List SeenFuture → Type 0
@@ -54,7 +64,8 @@ is_one_of block (b ∷ bs) = block == b || is_one_of block bs
 -- the future with this number has this block open
 abbrev pub has_block : ℕ → ℕ → List SeenFuture → Bool
 has_block number block [] = false
-has_block number block (f ∷ fs) = (number == f.number && is_one_of block f.blocks) || has_block number block fs
+has_block number block (f ∷ fs) =
+    (number == f.number && is_one_of block f.blocks) || has_block number block fs
 
 -- the unblocking changes nothing, and nothing is due
 pub record ChangesNothing (number block : ℕ) (fs : List SeenFuture) : Type 0 where
@@ -65,4 +76,5 @@ pub record FuturesLaw : Type 0 where
   pub empty : AreFutures []
   pub kept : (fs : List SeenFuture) → AreFutures fs → AreKept fs
   -- of a block that isn't open
-  pub unknown : (number block : ℕ) (fs : List SeenFuture) → AreFutures fs → has_block number block fs ≡ false → ChangesNothing number block fs
+  pub unknown : (number block : ℕ) (fs : List SeenFuture) → AreFutures fs
+      → has_block number block fs ≡ false → ChangesNothing number block fs

@@ -166,8 +166,15 @@ impl Future {
     /// Adds the future's tasks to those that are due, where these blocks fall and it is set then,
     /// and its joins to the blocks that fall.
     pub fn fall(&self, pending: &mut Vec<Part>, due: &mut Tasks) -> Result<(), AllocError>
-        ensures pending { OnOk result (pending.new.items ≡ passed_on (left pending.old.items self.now.number self.now.blocks) self.now.joins pending.old.items) }
-        ensures due { OnOk result (due.new ≡ due.old ++ (if becomes_set self.now.blocks (left pending.old.items self.now.number self.now.blocks) then self.now.callbacks else [])) }
+        ensures pending { OnOk result
+            (pending.new.items
+            ≡ passed_on (left pending.old.items self.now.number self.now.blocks) self.now.joins
+            pending.old.items) }
+        ensures due { OnOk result
+            (due.new ≡ due.old
+            ++ (if becomes_set self.now.blocks
+            (left pending.old.items self.now.number self.now.blocks) then self.now.callbacks
+            else [])) }
     {
         if has_left(&self.blocks, pending, self.number) {
             return Ok(());

@@ -16,14 +16,16 @@ pub trait Futures {
 
     /// Makes a future without a block.
     fn fresh(&mut self) -> Result<u64, AllocError>
-        ensures answer { IfOk result (λ number. (number ≡ next_number (futures self.old)) × (number ≤ 2 ^ 62)) }
+        ensures answer { IfOk result (λ number. (number ≡ next_number (futures self.old))
+            × (number ≤ 2 ^ 62)) }
         ensures ok { OnOk result (futures self.new ≡ with_fresh (futures self.old)) }
         ensures err { OnErr result (futures self.new ≡ futures self.old) };
 
     /// Adds a block to a future.
     fn block(&mut self, future: u64) -> Result<u64, AllocError>
         requires { is_made future (futures self.old) ≡ true }
-        ensures answer { IfOk result (λ block. (block ≡ next_block_of future (futures self.old)) × (block ≤ 2 ^ 62)) }
+        ensures answer { IfOk result (λ block. (block ≡ next_block_of future (futures self.old))
+            × (block ≤ 2 ^ 62)) }
         ensures ok { OnOk result (futures self.new ≡ with_block future (futures self.old)) }
         ensures err { OnErr result (futures self.new ≡ futures self.old) };
 
@@ -36,7 +38,8 @@ pub trait Futures {
     /// Makes a future that is set once all parts are.
     fn join(&mut self, parts: &[u64]) -> Result<u64, AllocError>
         requires { are_made parts.now (futures self.old) ≡ true }
-        ensures answer { IfOk result (λ number. (number ≡ next_number (futures self.old)) × (number ≤ 2 ^ 62)) }
+        ensures answer { IfOk result (λ number. (number ≡ next_number (futures self.old))
+            × (number ≤ 2 ^ 62)) }
         ensures ok { OnOk result (futures self.new ≡ joined parts.now (futures self.old)) }
         ensures err { OnErr result (futures self.new ≡ futures self.old) };
 

@@ -55,7 +55,8 @@ fn keep_others(futures: &mut Vec<Future>, number: u64)
 }
 
 fn due_in(alloc: Global, futures: &[Future], part: Part) -> Result<Tasks, AllocError>
-    ensures { IfOk result (λ tasks. tasks ≡ newly_set futures.now (settle (part ∷ []) futures.now)) }
+    ensures { IfOk result
+        (λ tasks. tasks ≡ newly_set futures.now (settle (part ∷ []) futures.now)) }
 {
     let mut pending = vec![in alloc; part]?;
     let mut due = Tasks::new(alloc);

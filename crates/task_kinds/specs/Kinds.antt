@@ -1,7 +1,43 @@
 -- The table of kinds.
-use Rattle.std.specs.Prelude.{ℕ, Bool, true, false, List, [], ◌∷◌, Option, Some, None, codes, ◌==◌, if◌then◌else◌}
+use Rattle.std.specs.Prelude.{
+  ℕ,
+  Bool,
+  true,
+  false,
+  List,
+  [],
+  ◌∷◌,
+  Option,
+  Some,
+  None,
+  codes,
+  ◌==◌,
+  if◌then◌else◌,
+}
 use Rattle.task_kinds.specs.declared.kind.Kind.{Kind}
-use Rattle.task_kinds.specs.declared.kind.Kind.TheVariants.{BackupStart, BackupDispatch, BackupRange, BackupManifest, BackupLogs, BackupLog, BackupErase, BackupFinish, RestoreStart, RestoreDispatch, RestoreRange, RestoreLog, RestoreApply, RestoreComplete, DrStart, DrCopy, DrLogs, DrLog, DrApply, DrErase, DrFinish}
+use Rattle.task_kinds.specs.declared.kind.Kind.TheVariants.{
+  BackupStart,
+  BackupDispatch,
+  BackupRange,
+  BackupManifest,
+  BackupLogs,
+  BackupLog,
+  BackupErase,
+  BackupFinish,
+  RestoreStart,
+  RestoreDispatch,
+  RestoreRange,
+  RestoreLog,
+  RestoreApply,
+  RestoreComplete,
+  DrStart,
+  DrCopy,
+  DrLogs,
+  DrLog,
+  DrApply,
+  DrErase,
+  DrFinish,
+}
 use Rattle.task_kinds.specs.declared.kind.Shape.{Shape}
 use Rattle.task_kinds.specs.declared.kind.Shape.TheVariants as shapes
 
@@ -86,7 +122,10 @@ shape_of _ = shapes.Nothing
 
 -- all of them, in the order of their codes
 abbrev pub kinds : List Kind
-kinds = BackupStart ∷ BackupDispatch ∷ BackupRange ∷ BackupManifest ∷ BackupLogs ∷ BackupLog ∷ BackupErase ∷ BackupFinish ∷ RestoreStart ∷ RestoreDispatch ∷ RestoreRange ∷ RestoreLog ∷ RestoreApply ∷ RestoreComplete ∷ DrStart ∷ DrCopy ∷ DrLogs ∷ DrLog ∷ DrApply ∷ DrErase ∷ DrFinish ∷ []
+kinds = BackupStart ∷ BackupDispatch ∷ BackupRange ∷ BackupManifest ∷ BackupLogs ∷ BackupLog ∷
+    BackupErase ∷ BackupFinish ∷ RestoreStart ∷ RestoreDispatch ∷ RestoreRange ∷ RestoreLog ∷
+    RestoreApply ∷ RestoreComplete ∷ DrStart ∷ DrCopy ∷ DrLogs ∷ DrLog ∷ DrApply ∷ DrErase ∷
+    DrFinish ∷ []
 
 abbrev pub first_with : ℕ → List Kind → Option Kind
 first_with code [] = None

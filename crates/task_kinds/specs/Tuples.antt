@@ -1,5 +1,25 @@
 -- The one tuple of a task, and the task of a tuple.
-use Rattle.std.specs.Prelude.{◌≡◌, ℕ, ◌^◌, Bool, List, [], ◌∷◌, Option, Some, None, Result, Ok, Err, ℤ, pos, negsuc, nat_lt, nat_le, if◌then◌else◌}
+use Rattle.std.specs.Prelude.{
+  ◌≡◌,
+  ℕ,
+  ◌^◌,
+  Bool,
+  List,
+  [],
+  ◌∷◌,
+  Option,
+  Some,
+  None,
+  Result,
+  Ok,
+  Err,
+  ℤ,
+  pos,
+  negsuc,
+  nat_lt,
+  nat_le,
+  if◌then◌else◌,
+}
 use Rattle.fb_bytes.specs.Options.{◌>>=◌}
 use Rattle.fb_bytes.specs.Results.{found_or}
 use Rattle.fb_bytes.specs.declared.key_range.KeyRange.{KeyRange}
@@ -9,7 +29,14 @@ use Rattle.task_kinds.specs.declared.kind.Kind.{Kind}
 use Rattle.task_kinds.specs.declared.kind.Shape.{Shape}
 use Rattle.task_kinds.specs.declared.kind.Shape.TheVariants as shapes
 use Rattle.task_kinds.specs.declared.params.Params.{Params}
-use Rattle.task_kinds.specs.declared.params.Params.TheVariants.{Nothing, Piece, Snapshot, Span, File, Range}
+use Rattle.task_kinds.specs.declared.params.Params.TheVariants.{
+  Nothing,
+  Piece,
+  Snapshot,
+  Span,
+  File,
+  Range,
+}
 use Rattle.task_kinds.specs.declared.fault.KindFault.{KindFault}
 use Rattle.task_kinds.specs.declared.fault.KindFault.TheVariants as faults
 use Rattle.task_kinds.specs.Kinds.{code_of, shape_of, kind_with}
@@ -20,11 +47,14 @@ number n = Int (pos n)
 
 abbrev pub elements_of : Params → List Element
 elements_of Nothing = []
-elements_of (Piece snapshot range future block) = number snapshot ∷ Bytes range.begin ∷ Bytes range.end ∷ number future ∷ number block ∷ []
+elements_of (Piece snapshot range future block) =
+    number snapshot ∷ Bytes range.begin ∷ Bytes range.end ∷ number future ∷ number block ∷ []
 elements_of (Snapshot snapshot) = number snapshot ∷ []
-elements_of (Span begin end future block) = number begin ∷ number end ∷ number future ∷ number block ∷ []
+elements_of (Span begin end future block) =
+    number begin ∷ number end ∷ number future ∷ number block ∷ []
 elements_of (File place future block) = number place ∷ number future ∷ number block ∷ []
-elements_of (Range range future block) = Bytes range.begin ∷ Bytes range.end ∷ number future ∷ number block ∷ []
+elements_of (Range range future block) =
+    Bytes range.begin ∷ Bytes range.end ∷ number future ∷ number block ∷ []
 
 -- the kind's code, the job and the parameters
 abbrev pub tuple_of : SeenTask → List Element

@@ -20,7 +20,8 @@ fn number(n: u64) -> Element
 }
 
 fn put_range(tuple: &mut Tuple, range: &KeyRange) -> Result<(), AllocError>
-    ensures { OnOk result (tuple.new ≡ tuple.old ++ Bytes range.now.begin ∷ Bytes range.now.end ∷ []) }
+    ensures { OnOk result
+        (tuple.new ≡ tuple.old ++ Bytes range.now.begin ∷ Bytes range.now.end ∷ []) }
 {
     tuple.push(Element::Bytes(range.begin.copy()?))?;
     tuple.push(Element::Bytes(range.end.copy()?))
@@ -90,7 +91,8 @@ pub fn to_tuple(alloc: Global, task: &Task) -> Result<Tuple, AllocError>
 }
 
 fn number_of(elements: &[Element]) -> Option<(u64, &[Element])>
-    ensures { MatchOption result (number_at elements.now ≡ None) (λ x. number_at elements.now ≡ Some (x.0, x.1.now)) }
+    ensures { MatchOption result (number_at elements.now ≡ None)
+        (λ x. number_at elements.now ≡ Some (x.0, x.1.now)) }
 {
     match elements {
         [Element::Int(n), rest @ ..] if 0 <= *n && *n < 1 << 63 => Some((*n as u64, rest)),
@@ -99,7 +101,8 @@ fn number_of(elements: &[Element]) -> Option<(u64, &[Element])>
 }
 
 fn bytes_of(elements: &[Element]) -> Option<(&Blob, &[Element])>
-    ensures { MatchOption result (bytes_at elements.now ≡ None) (λ x. bytes_at elements.now ≡ Some (x.0.now, x.1.now)) }
+    ensures { MatchOption result (bytes_at elements.now ≡ None)
+        (λ x. bytes_at elements.now ≡ Some (x.0.now, x.1.now)) }
 {
     match elements {
         [Element::Bytes(bytes), rest @ ..] => Some((bytes, rest)),
@@ -109,7 +112,8 @@ fn bytes_of(elements: &[Element]) -> Option<(&Blob, &[Element])>
 
 // The ends of a range, and what stands behind them.
 fn ends_of(elements: &[Element]) -> Option<(&Blob, &Blob, &[Element])>
-    ensures { MatchOption result (range_in elements.now ≡ None) (λ x. range_in elements.now ≡ Some (record { begin = x.0.now; end = x.1.now }, x.2.now)) }
+    ensures { MatchOption result (range_in elements.now ≡ None)
+        (λ x. range_in elements.now ≡ Some (record { begin = x.0.now; end = x.1.now }, x.2.now)) }
 {
     let (begin, rest) = bytes_of(elements)?;
     let (end, rest) = bytes_of(rest)?;
@@ -232,7 +236,8 @@ fn params_of(shape: Shape, elements: &[Element]) -> Result<Option<Params>, Alloc
 }
 
 fn job_of(elements: &[Element]) -> Option<(u64, &[Element])>
-    ensures { MatchOption result (job_at elements.now ≡ None) (λ x. job_at elements.now ≡ Some (x.0, x.1.now)) }
+    ensures { MatchOption result (job_at elements.now ≡ None)
+        (λ x. job_at elements.now ≡ Some (x.0, x.1.now)) }
 {
     let (job, rest) = number_of(elements)?;
     if 1 <= job { Some((job, rest)) } else { None }
@@ -281,7 +286,8 @@ pub fn from_tuple(tuple: &Tuple) -> Result<Task, KindFault>
     // What is read is the task's one tuple.
     ensures found { IfOk result (λ task. IsTask task × (tuple.now ≡ tuple_of task)) }
     // The tuple of a task is read, unless memory runs out.
-    ensures only { (task : SeenTask) → IsTask task → tuple.now ≡ tuple_of task → (result ≡ Ok task) ⊎ (result ≡ Err NoMemory) }
+    ensures only { (task : SeenTask) → IsTask task → tuple.now ≡ tuple_of task → (result ≡ Ok task)
+        ⊎ (result ≡ Err NoMemory) }
     // Which fault it is.
     ensures ok { IfOk result (λ task. task_of tuple.now ≡ Ok task) }
     ensures err { IfErr result (λ fault. (fault ≡ NoMemory) ⊎ (task_of tuple.now ≡ Err fault)) }

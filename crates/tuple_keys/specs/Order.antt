@@ -29,4 +29,5 @@ compare_tuples = slice_cmp compare_elements
 
 -- The byte order of spellings is the order of the tuples.
 abbrev pub OrderLaw : Type 0
-OrderLaw = (s t : List Element) → AreElements s → AreElements t → slice_cmp nat_cmp (spelling s) (spelling t) ≡ compare_tuples s t
+OrderLaw = (s t : List Element) → AreElements s → AreElements t
+    → slice_cmp nat_cmp (spelling s) (spelling t) ≡ compare_tuples s t

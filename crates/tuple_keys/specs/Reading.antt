@@ -1,12 +1,49 @@
 -- Reading a tuple from left to right, with the first fault that is met.
-use Rattle.std.specs.Prelude.{ℕ, ◌+◌, ◌*◌, ◌-◌, ◌^◌, zero, suc, Bool, true, false, ◌&&◌, List, [], ◌∷◌, length, take, drop, Option, Some, None, Result, Ok, Err, nat_lt, nat_le, ◌==◌, ℤ, pos, negsuc, if◌then◌else◌}
+use Rattle.std.specs.Prelude.{
+  ℕ,
+  ◌+◌,
+  ◌*◌,
+  ◌-◌,
+  ◌^◌,
+  zero,
+  suc,
+  Bool,
+  true,
+  false,
+  ◌&&◌,
+  List,
+  [],
+  ◌∷◌,
+  length,
+  take,
+  drop,
+  Option,
+  Some,
+  None,
+  Result,
+  Ok,
+  Err,
+  nat_lt,
+  nat_le,
+  ◌==◌,
+  ℤ,
+  pos,
+  negsuc,
+  if◌then◌else◌,
+}
 use Rattle.std.specs.Str.{is_utf8}
 use Rattle.fb_bytes.specs.Bytes.{is_same}
 use Rattle.fb_bytes.specs.Results.{◌>>=◌, GivesBut}
 use Rattle.tuple_keys.specs.declared.element.Element.{Element}
 use Rattle.tuple_keys.specs.declared.element.Element.TheVariants.{Null, Bytes, Text, Int}
 use Rattle.tuple_keys.specs.declared.fault.TupleFault.{TupleFault}
-use Rattle.tuple_keys.specs.declared.fault.TupleFault.TheVariants.{Code, Open, Spelling, NotText, NoMemory}
+use Rattle.tuple_keys.specs.declared.fault.TupleFault.TheVariants.{
+  Code,
+  Open,
+  Spelling,
+  NotText,
+  NoMemory,
+}
 use Rattle.tuple_keys.specs.Spelling.{complement}
 
 -- what a function returned, seen by view, is what the reading gives, unless memory ran out
@@ -28,7 +65,8 @@ in_front b (Err e) = Err e
 abbrev pub closed_at : ℕ → List ℕ → Result (List ℕ × List ℕ) TupleFault
 closed_at at [] = Err (Open at)
 closed_at at (zero ∷ []) = Ok ([], [])
-closed_at at (zero ∷ c ∷ bytes) = if c == 255 then in_front 0 (closed_at at bytes) else Ok ([], c ∷ bytes)
+closed_at at (zero ∷ c ∷ bytes) =
+    if c == 255 then in_front 0 (closed_at at bytes) else Ok ([], c ∷ bytes)
 closed_at at (suc b ∷ bytes) = in_front (suc b) (closed_at at bytes)
 
 abbrev pub text_of : ℕ → List ℕ → Result (List ℕ) TupleFault
@@ -72,9 +110,12 @@ unfoldable pub coded_at : ℕ → ℕ → List ℕ → Result (Element × List �
 coded_at at code rest =
     if code == 0 then Ok (Null, rest)
     else (if code == 1 then (closed_at at rest >>= λ x. Ok (Bytes x.0, x.1))
-    else (if code == 2 then (closed_at at rest >>= λ x. text_of at x.0 >>= λ text. Ok (Text text, x.1))
-    else (if nat_le 12 code && nat_le code 19 then (int_at at true (20 - code) rest >>= λ x. Ok (Int x.0, x.1))
-    else (if nat_le 20 code && nat_le code 28 then (int_at at false (code - 20) rest >>= λ x. Ok (Int x.0, x.1))
+    else (if code == 2
+    then (closed_at at rest >>= λ x. text_of at x.0 >>= λ text. Ok (Text text, x.1))
+    else (if nat_le 12 code && nat_le code 19
+    then (int_at at true (20 - code) rest >>= λ x. Ok (Int x.0, x.1))
+    else (if nat_le 20 code && nat_le code 28
+    then (int_at at false (code - 20) rest >>= λ x. Ok (Int x.0, x.1))
     else Err (Code at)))))
 
 -- the element in front of bytes, and what stands behind it
@@ -82,11 +123,14 @@ abbrev pub element_at : ℕ → List ℕ → Result (Element × List ℕ) TupleF
 element_at at [] = Err (Open at)
 element_at at (code ∷ rest) = coded_at at code rest
 
--- The elements of the end of a text of that length, at most so many. An element has at least one byte.
+-- The elements of the end of a text of that length, at most so many. An element has at least one
+-- byte.
 unfoldable pub elements_at : ℕ → ℕ → List ℕ → Result (List Element) TupleFault
 elements_at total most [] = Ok []
 elements_at total zero (code ∷ rest) = Err (Open (total - (length rest + 1)))
-elements_at total (suc most) (code ∷ rest) = coded_at (total - (length rest + 1)) code rest >>= λ x. elements_at total most x.1 >>= λ es. Ok (x.0 ∷ es)
+elements_at total (suc most) (code ∷ rest) =
+    coded_at (total - (length rest + 1)) code rest >>= λ x. elements_at total most x.1
+    >>= λ es. Ok (x.0 ∷ es)
 
 -- all of the bytes
 unfoldable pub reading : List ℕ → Result (List Element) TupleFault
@@ -95,4 +139,5 @@ reading bytes = elements_at (length bytes) (length bytes) bytes
 -- the tuple behind a prefix, where the prefix is there
 abbrev pub stripping : List ℕ → List ℕ → Result (Option (List Element)) TupleFault
 stripping prefix key =
-    if is_same (take (length prefix) key) prefix then (reading (drop (length prefix) key) >>= λ es. Ok (Some es)) else Ok None
+    if is_same (take (length prefix) key) prefix
+    then (reading (drop (length prefix) key) >>= λ es. Ok (Some es)) else Ok None

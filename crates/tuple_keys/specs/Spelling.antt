@@ -1,5 +1,23 @@
 -- The one spelling of a tuple.
-use Rattle.std.specs.Prelude.{ℕ, ◌+◌, ◌-◌, Bool, true, false, List, [], ◌∷◌, ◌++◌, length, map, zero, suc, ℤ, pos, negsuc}
+use Rattle.std.specs.Prelude.{
+  ℕ,
+  ◌+◌,
+  ◌-◌,
+  Bool,
+  true,
+  false,
+  List,
+  [],
+  ◌∷◌,
+  ◌++◌,
+  length,
+  map,
+  zero,
+  suc,
+  ℤ,
+  pos,
+  negsuc,
+}
 use Rattle.std.specs.List.{flat_map}
 use Rattle.std.specs.Int.{w64, to_be_bytes}
 use Rattle.std.specs.Int.RustNames.{unsigned_abs}
@@ -32,7 +50,8 @@ abbrev pub is_negative : ℤ → Bool
 is_negative (pos n) = false
 is_negative (negsuc n) = true
 
--- The first byte says the sign and how many bytes follow; 20 is zero. Those of a negative number are
+-- The first byte says the sign and how many bytes follow; 20 is zero. Those of a negative number
+-- are
 -- the complements of its magnitude's.
 abbrev pub number_spelling : Bool → ℕ → List ℕ
 number_spelling false m = (20 + length (digits m)) ∷ digits m

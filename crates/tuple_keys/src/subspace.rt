@@ -29,7 +29,8 @@ impl Subspace {
     /// place counts from the end of the prefix.
     pub fn strip(&self, alloc: Global, key: &[u8]) -> Result<Option<Tuple>, TupleFault>
         ensures ok { IfOk result (λ found. stripping self.now.prefix key.now ≡ Ok found) }
-        ensures err { IfErr result (λ fault. (fault ≡ NoMemory) ⊎ (stripping self.now.prefix key.now ≡ Err fault)) }
+        ensures err { IfErr result (λ fault. (fault ≡ NoMemory)
+            ⊎ (stripping self.now.prefix key.now ≡ Err fault)) }
     {
         match behind(self.prefix.as_slice(), key) {
             Some(rest) => Ok(Some(unpack(alloc, rest)?)),
@@ -41,7 +42,9 @@ impl Subspace {
 // What stands behind the prefix, where the prefix is there.
 #[tactic(auto, unfolding(fb_bytes::specs::Bytes::is_same))]
 fn behind<'a>(prefix: &[u8], key: &'a [u8]) -> Option<&'a [u8]>
-    ensures { MatchOption result (is_same (take (length prefix.now) key.now) prefix.now ≡ false) (λ rest. (is_same (take (length prefix.now) key.now) prefix.now ≡ true) × (rest.now ≡ drop (length prefix.now) key.now)) }
+    ensures { MatchOption result (is_same (take (length prefix.now) key.now) prefix.now ≡ false)
+        (λ rest. (is_same (take (length prefix.now) key.now) prefix.now ≡ true)
+        × (rest.now ≡ drop (length prefix.now) key.now)) }
 {
     if key.len() < prefix.len() {
         return None;

@@ -14,7 +14,8 @@ use std::alloc::Global;
 
 // The next byte of an escaped text, and none at its end.
 fn next_of(bytes: &[u8]) -> Option<(u8, &[u8])>
-    ensures { MatchOption result (next_of bytes.now ≡ None) (λ x. next_of bytes.now ≡ Some (x.0, x.1.now)) }
+    ensures { MatchOption result (next_of bytes.now ≡ None)
+        (λ x. next_of bytes.now ≡ Some (x.0, x.1.now)) }
 {
     match bytes {
         [0, 255, rest @ ..] => Some((0, rest)),
@@ -125,7 +126,8 @@ pub fn unpack(alloc: Global, bytes: &[u8]) -> Result<Tuple, TupleFault>
     // What is read is spelt so.
     ensures found { IfOk result (λ tuple. AreElements tuple × (bytes.now ≡ spelling tuple)) }
     // What is spelt so is read, unless memory runs out.
-    ensures only { (elements : List Element) → AreElements elements → bytes.now ≡ spelling elements → (result ≡ Ok elements) ⊎ (result ≡ Err NoMemory) }
+    ensures only { (elements : List Element) → AreElements elements → bytes.now ≡ spelling elements
+        → (result ≡ Ok elements) ⊎ (result ≡ Err NoMemory) }
     // Which fault it is.
     ensures ok { IfOk result (λ tuple. reading bytes.now ≡ Ok tuple) }
     ensures err { IfErr result (λ fault. (fault ≡ NoMemory) ⊎ (reading bytes.now ≡ Err fault)) }

@@ -11,5 +11,5 @@ returns-in-Ok-clause-ok c = commit_answer-by_fault {kept = c.deref.result.now} _
 pub returns-in-Err-clause-err : goal.returns-in-Err-clause-err
 returns-in-Err-clause-err c =
     let same = commit_answer-by_fault {kept = c.deref.result.now} _ _ (ap (λ d. d.block) c.self.view_is) c.as_slice.ensures
-        (c.deref.ensures.value ∙ ap (λ d. d.logs) c.self.view_is) c.self.inside.profile.keys c.self.inside.profile.values c.in-None.ensures in
+    (c.deref.ensures.value ∙ ap (λ d. d.logs) c.self.view_is) c.self.inside.profile.keys c.self.inside.profile.values c.in-None.ensures in
     elim c.in-Err.ensures.err [ inl starved ↦ inl starved | inr met ↦ inr (same ∙ met) ]
