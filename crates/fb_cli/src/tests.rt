@@ -7,11 +7,35 @@ use std::alloc::{AllocError, Global};
 use std::test::Fail;
 
 // A hand job whose snapshot and log give back the client's one commit.
-const EXAMPLE: &[u8] =
-    b"block 256\npace 10\nclient 1 src\ntxn\nset a 1\noperator\nopen default src box\ndump default \\e \\xff\ncut default\nseal default\nschedule\nop\nbegin 1\ncommit 1\nop\nop\nop\n";
+const SMALLEST: &[u8] = b"block 256\n\
+      pace 10\n\
+      client 1 src\n\
+      txn\n\
+      set a 1\n\
+      operator\n\
+      open default src box\n\
+      dump default \\e \\xff\n\
+      cut default\n\
+      seal default\n\
+      schedule\n\
+      op\n\
+      begin 1\n\
+      commit 1\n\
+      op\n\
+      op\n\
+      op\n";
 
-const REPORT: &[u8] =
-    b"op open -> done\nbegin 1 -> read 10\ncommit 1 -> commit 20\nop dump -> placed box/kvranges/snapshot.20/0/range,20,1,256\nop cut -> placed box/logs/0/log,10,21,2,256\nop seal -> placed box/snapshots/snapshot,20,20,23,3\nclient 1 txn 1 try 1 read 10 commit 20\nentry src 20 client 1 1\nset a 1\njob 1 default hand running\nend 20\n";
+const SMALLEST_REPORT: &[u8] = b"op open -> done\n\
+      begin 1 -> read 10\n\
+      commit 1 -> commit 20\n\
+      op dump -> placed box/kvranges/snapshot.20/0/range,20,1,256\n\
+      op cut -> placed box/logs/0/log,10,21,2,256\n\
+      op seal -> placed box/snapshots/snapshot,20,20,23,3\n\
+      client 1 txn 1 try 1 read 10 commit 20\n\
+      entry src 20 client 1 1\n\
+      set a 1\n\
+      job 1 default hand running\n\
+      end 20\n";
 
 const RANGE_NAME: &[u8] = b"box/kvranges/snapshot.20/0/range,20,1,256";
 
@@ -27,6 +51,116 @@ const MANIFEST_NAME: &[u8] = b"box/snapshots/snapshot,20,20,23,3";
 
 const MANIFEST: &[u8] =
     b"{\"beginVersion\":20,\"endVersion\":20,\"files\":[\"kvranges/snapshot.20/0/range,20,1,256\"],\"format\":1,\"totalBytes\":23}";
+
+// A commit at the dump's version, and one after it.
+const ADDS: &[u8] = b"block 256\n\
+      pace 10\n\
+      client 1 src\n\
+      txn\n\
+      add n \\x01\n\
+      txn\n\
+      add n \\x01\n\
+      operator\n\
+      open default src box\n\
+      dump default \\e \\xff\n\
+      cut default\n\
+      seal default\n\
+      schedule\n\
+      op\n\
+      begin 1\n\
+      commit 1\n\
+      op\n\
+      begin 1\n\
+      commit 1\n\
+      op\n\
+      op\n";
+
+const ADDS_REPORT: &[u8] = b"op open -> done\n\
+      begin 1 -> read 10\n\
+      commit 1 -> commit 20\n\
+      op dump -> placed box/kvranges/snapshot.20/0/range,20,1,256\n\
+      begin 1 -> read 20\n\
+      commit 1 -> commit 30\n\
+      op cut -> placed box/logs/0/log,10,31,2,256\n\
+      op seal -> placed box/snapshots/snapshot,20,20,23,3\n\
+      client 1 txn 1 try 1 read 10 commit 20\n\
+      client 1 txn 2 try 1 read 20 commit 30\n\
+      entry src 20 client 1 1\n\
+      add n \\x01\n\
+      entry src 30 client 1 2\n\
+      add n \\x01\n\
+      job 1 default hand running\n\
+      end 30\n";
+
+// Two pieces of differing versions, with a clear between them that touches both; a seal comes too
+// early.
+const CLEAR: &[u8] = b"block 256\n\
+      pace 10\n\
+      client 1 src\n\
+      txn\n\
+      set c 1\n\
+      txn\n\
+      clearrange b x\n\
+      txn\n\
+      set p 2\n\
+      operator\n\
+      open default src box a z\n\
+      dump default a m\n\
+      seal default\n\
+      dump default m z\n\
+      cut default\n\
+      seal default\n\
+      schedule\n\
+      op\n\
+      begin 1\n\
+      commit 1\n\
+      op\n\
+      begin 1\n\
+      commit 1\n\
+      op\n\
+      begin 1\n\
+      commit 1\n\
+      op\n\
+      op\n\
+      op\n";
+
+const CLEAR_REPORT: &[u8] = b"op open -> done\n\
+      begin 1 -> read 10\n\
+      commit 1 -> commit 20\n\
+      op dump -> placed box/kvranges/snapshot.20/0/range,20,1,256\n\
+      begin 1 -> read 20\n\
+      commit 1 -> commit 30\n\
+      op seal -> refused untiled m\n\
+      begin 1 -> read 30\n\
+      commit 1 -> commit 40\n\
+      op dump -> placed box/kvranges/snapshot.20/0/range,40,2,256\n\
+      op cut -> placed box/logs/0/log,10,41,3,256\n\
+      op seal -> placed box/snapshots/snapshot,20,40,48,4\n\
+      client 1 txn 1 try 1 read 10 commit 20\n\
+      client 1 txn 2 try 1 read 20 commit 30\n\
+      client 1 txn 3 try 1 read 30 commit 40\n\
+      entry src 20 client 1 1\n\
+      set c 1\n\
+      entry src 30 client 1 2\n\
+      clear b x\n\
+      entry src 40 client 1 3\n\
+      set p 2\n\
+      job 1 default hand running\n\
+      end 40\n";
+
+// Four commands that call the store.
+const FOUR_COMMANDS: &[u8] = b"block 256\n\
+      pace 10\n\
+      operator\n\
+      open default src box\n\
+      dump default \\e \\xff\n\
+      cut default\n\
+      seal default\n\
+      schedule\n\
+      op\n\
+      op\n\
+      op\n\
+      op\n";
 
 // Plays a text with the words of a replay, over a file store.
 fn played_over<K: Sink>(
@@ -61,99 +195,116 @@ fn has_file(files: &Files, name: &[u8], bytes: &[u8]) -> bool {
     }
 }
 
+// Whether a text is played so, and leaves these files among those of a store that had none.
+fn leaves(
+    alloc: Global,
+    text: &[u8],
+    said: &[u8],
+    files: &[(&[u8], &[u8])],
+) -> Result<bool, AllocError> {
+    let mut sink = MemSink::new(alloc, 2000, &[])?;
+    let exit = played(alloc, text, &[], &mut sink)?;
+    Ok(
+        exit.status == 0
+            && exit.report.is_some()
+            && is_same(sink.written().as_slice(), said)
+            && has_files(exit.vault.files(), files),
+    )
+}
+
+// Whether the files have these ones.
+fn has_files(files: &Files, some: &[(&[u8], &[u8])]) -> bool {
+    for (name, bytes) in some {
+        if !has_file(files, name, bytes) {
+            return false;
+        }
+    }
+    true
+}
+
+// The number of the call that fails at each end of the outside; 0 is none.
+#[derive(Clone, Copy)]
+struct Failing {
+    source: u64,
+    store: u64,
+    sink: u64,
+}
+
+const NONE: Failing = Failing {
+    source: 0,
+    store: 0,
+    sink: 0,
+};
+
+// Whether a text ends so over an empty store.
+fn ends(
+    alloc: Global,
+    text: &[u8],
+    failing: Failing,
+    status: u8,
+    said: &[u8],
+) -> Result<bool, AllocError> {
+    let vault = MemVault::new(alloc, &Files::new(alloc), &[failing.store])?;
+    let mut sink = MemSink::new(alloc, 2000, &[failing.sink])?;
+    let exit = played_over(alloc, text, &[failing.source], vault, &mut sink)?;
+    Ok(exit.status == status && is_same(sink.written().as_slice(), said))
+}
+
 #[test]
-fn smallest_whole_path(rt: HostRuntime) -> Result<(), Fail> {
-    let mut sink = MemSink::new(rt.alloc(), 1000, &[])?;
-    let exit = played(rt.alloc(), EXAMPLE, &[], &mut sink)?;
-    assert_eq!(rt; exit.status, 0);
-    assert!(rt; exit.report.is_some());
-    assert_eq!(rt; sink.written().as_slice(), REPORT);
-    let files = exit.vault.files();
-    assert_eq!(rt; files.len(), 3);
-    assert!(rt; has_file(files, RANGE_NAME, RANGE_FILE));
-    assert!(rt; has_file(files, LOG_NAME, LOG_FILE));
-    assert!(rt; has_file(files, MANIFEST_NAME, MANIFEST));
+fn the_smallest_job_is_told_and_leaves_three_files(rt: HostRuntime) -> Result<(), Fail> {
+    let files = [
+        (RANGE_NAME, RANGE_FILE),
+        (LOG_NAME, LOG_FILE),
+        (MANIFEST_NAME, MANIFEST),
+    ];
+    assert!(rt; leaves(rt.alloc(), SMALLEST, SMALLEST_REPORT, &files)?);
     Ok(())
 }
 
-// The commit at the dump's version stands in the log too, and so it does at later versions.
+// So it is at later versions too.
 #[test]
-fn a_mutation_at_the_version_of_a_dump(rt: HostRuntime) -> Result<(), Fail> {
-    let text =
-        b"block 256\npace 10\nclient 1 src\ntxn\nadd n \\x01\ntxn\nadd n \\x01\noperator\nopen default src box\ndump default \\e \\xff\ncut default\nseal default\nschedule\nop\nbegin 1\ncommit 1\nop\nbegin 1\ncommit 1\nop\nop\n";
-    let said =
-        b"op open -> done\nbegin 1 -> read 10\ncommit 1 -> commit 20\nop dump -> placed box/kvranges/snapshot.20/0/range,20,1,256\nbegin 1 -> read 20\ncommit 1 -> commit 30\nop cut -> placed box/logs/0/log,10,31,2,256\nop seal -> placed box/snapshots/snapshot,20,20,23,3\nclient 1 txn 1 try 1 read 10 commit 20\nclient 1 txn 2 try 1 read 20 commit 30\nentry src 20 client 1 1\nadd n \\x01\nentry src 30 client 1 2\nadd n \\x01\njob 1 default hand running\nend 30\n";
-    let mut sink = MemSink::new(rt.alloc(), 1000, &[])?;
-    let exit = played(rt.alloc(), text, &[], &mut sink)?;
-    assert_eq!(rt; exit.status, 0);
-    assert_eq!(rt; sink.written().as_slice(), said.as_slice());
-    let files = exit.vault.files();
-    assert!(rt;
-        has_file(
-            files,
-            RANGE_NAME,
-            b"\xe9\x03\x00\x00\x00\x00\x00\x00\x00\x00\x00\x01n\x00\x00\x00\x01\x01\x00\x00\x00\x01\xff"
-        )
-    );
-    assert!(rt;
-        has_file(
-            files,
-            b"box/logs/0/log,10,31,2,256",
-            b"\xd1\x07\x00\x00\x00\x00\x00\x0c\x00\x00\x00\x00\x00\x00\x00\x14\x00\x00\x00\x00\x00\x00\x00\x1a\xbd\x1b\x00\x00\x00\x00\x00\x00\x0e\x00\x00\x00\x02\x00\x00\x00\x01\x00\x00\x00\x01\x00\x00\x00n\x01\x00\x00\x00\x0c\x00\x00\x00\x00\x00\x00\x00\x1e\x00\x00\x00\x00\x00\x00\x00\x1a\xbd\x1b\x00\x00\x00\x00\x00\x00\x0e\x00\x00\x00\x02\x00\x00\x00\x01\x00\x00\x00\x01\x00\x00\x00n\x01"
-        )
-    );
+fn a_commit_at_a_dumps_version_is_in_its_file_and_in_the_log(rt: HostRuntime) -> Result<(), Fail> {
+    let range: &[u8] =
+        b"\xe9\x03\x00\x00\x00\x00\x00\x00\x00\x00\x00\x01n\x00\x00\x00\x01\x01\x00\x00\x00\x01\xff";
+    let log: &[u8] =
+        b"\xd1\x07\x00\x00\x00\x00\x00\x0c\x00\x00\x00\x00\x00\x00\x00\x14\x00\x00\x00\x00\x00\x00\x00\x1a\xbd\x1b\x00\x00\x00\x00\x00\x00\x0e\x00\x00\x00\x02\x00\x00\x00\x01\x00\x00\x00\x01\x00\x00\x00n\x01\x00\x00\x00\x0c\x00\x00\x00\x00\x00\x00\x00\x1e\x00\x00\x00\x00\x00\x00\x00\x1a\xbd\x1b\x00\x00\x00\x00\x00\x00\x0e\x00\x00\x00\x02\x00\x00\x00\x01\x00\x00\x00\x01\x00\x00\x00n\x01";
+    let files = [(RANGE_NAME, range), (b"box/logs/0/log,10,31,2,256", log)];
+    assert!(rt; leaves(rt.alloc(), ADDS, ADDS_REPORT, &files)?);
     Ok(())
 }
 
-// Two pieces of differing versions, with a clear between them that touches both; a seal comes too early.
 #[test]
-fn a_clear_across_two_pieces(rt: HostRuntime) -> Result<(), Fail> {
-    let text =
-        b"block 256\npace 10\nclient 1 src\ntxn\nset c 1\ntxn\nclearrange b x\ntxn\nset p 2\noperator\nopen default src box a z\ndump default a m\nseal default\ndump default m z\ncut default\nseal default\nschedule\nop\nbegin 1\ncommit 1\nop\nbegin 1\ncommit 1\nop\nbegin 1\ncommit 1\nop\nop\nop\n";
-    let said =
-        b"op open -> done\nbegin 1 -> read 10\ncommit 1 -> commit 20\nop dump -> placed box/kvranges/snapshot.20/0/range,20,1,256\nbegin 1 -> read 20\ncommit 1 -> commit 30\nop seal -> refused untiled m\nbegin 1 -> read 30\ncommit 1 -> commit 40\nop dump -> placed box/kvranges/snapshot.20/0/range,40,2,256\nop cut -> placed box/logs/0/log,10,41,3,256\nop seal -> placed box/snapshots/snapshot,20,40,48,4\nclient 1 txn 1 try 1 read 10 commit 20\nclient 1 txn 2 try 1 read 20 commit 30\nclient 1 txn 3 try 1 read 30 commit 40\nentry src 20 client 1 1\nset c 1\nentry src 30 client 1 2\nclear b x\nentry src 40 client 1 3\nset p 2\njob 1 default hand running\nend 40\n";
-    let mut sink = MemSink::new(rt.alloc(), 1000, &[])?;
-    let exit = played(rt.alloc(), text, &[], &mut sink)?;
-    assert_eq!(rt; exit.status, 0);
-    assert_eq!(rt; sink.written().as_slice(), said.as_slice());
-    let files = exit.vault.files();
-    assert!(rt;
-        has_file(
-            files,
-            RANGE_NAME,
-            b"\xe9\x03\x00\x00\x00\x00\x00\x01a\x00\x00\x00\x01c\x00\x00\x00\x011\x00\x00\x00\x01m"
-        )
-    );
-    assert!(rt;
-        has_file(
-            files,
-            b"box/kvranges/snapshot.20/0/range,40,2,256",
-            b"\xe9\x03\x00\x00\x00\x00\x00\x01m\x00\x00\x00\x01p\x00\x00\x00\x012\x00\x00\x00\x01z"
-        )
-    );
-    assert!(rt;
-        has_file(
-            files,
-            b"box/snapshots/snapshot,20,40,48,4",
-            b"{\"beginVersion\":20,\"endVersion\":40,\"files\":[\"kvranges/snapshot.20/0/range,20,1,256\",\"kvranges/snapshot.20/0/range,40,2,256\"],\"format\":1,\"totalBytes\":48}"
-        )
-    );
+fn pieces_of_two_versions_are_sealed_once_they_tile(rt: HostRuntime) -> Result<(), Fail> {
+    let first: &[u8] =
+        b"\xe9\x03\x00\x00\x00\x00\x00\x01a\x00\x00\x00\x01c\x00\x00\x00\x011\x00\x00\x00\x01m";
+    let second: &[u8] =
+        b"\xe9\x03\x00\x00\x00\x00\x00\x01m\x00\x00\x00\x01p\x00\x00\x00\x012\x00\x00\x00\x01z";
+    let manifest: &[u8] =
+        b"{\"beginVersion\":20,\"endVersion\":40,\"files\":[\"kvranges/snapshot.20/0/range,20,1,256\",\"kvranges/snapshot.20/0/range,40,2,256\"],\"format\":1,\"totalBytes\":48}";
+    let files = [
+        (RANGE_NAME, first),
+        (b"box/kvranges/snapshot.20/0/range,40,2,256", second),
+        (b"box/snapshots/snapshot,20,40,48,4", manifest),
+    ];
+    assert!(rt; leaves(rt.alloc(), CLEAR, CLEAR_REPORT, &files)?);
     Ok(())
 }
 
-// A job on each database; the commit is one of the second. Its dump has two blocks, and its batch in the
-// log five parts in two blocks.
+// The commit is one of the second database. Its dump has two blocks, and its batch in the log five
+// parts in two blocks.
 #[test]
-fn two_jobs_on_both_databases(rt: HostRuntime) -> Result<(), Fail> {
-    let value = [b'v'; 64];
-    let text = two_jobs(rt.alloc(), &value)?;
-    let said = two_jobs_report(rt.alloc(), &value)?;
-    let mut sink = MemSink::new(rt.alloc(), 2000, &[])?;
-    let exit = played(rt.alloc(), text.as_slice(), &[], &mut sink)?;
-    assert_eq!(rt; exit.status, 0);
-    assert_eq!(rt; sink.written().as_slice(), said.as_slice());
-    assert!(rt; has_two_jobs(rt.alloc(), exit.vault.files(), &value)?);
+fn two_jobs_back_up_their_own_databases(rt: HostRuntime) -> Result<(), Fail> {
+    assert!(rt; plays_two_jobs(rt.alloc(), &[b'v'; 64])?);
     Ok(())
+}
+
+fn plays_two_jobs(alloc: Global, value: &[u8; 64]) -> Result<bool, AllocError> {
+    let text = two_jobs(alloc, value)?;
+    let said = two_jobs_report(alloc, value)?;
+    let mut sink = MemSink::new(alloc, 2000, &[])?;
+    let exit = played(alloc, text.as_slice(), &[], &mut sink)?;
+    let found = has_two_jobs(alloc, exit.vault.files(), value)?;
+    Ok(found && exit.status == 0 && is_same(sink.written().as_slice(), said.as_slice()))
 }
 
 fn two_jobs(alloc: Global, value: &[u8; 64]) -> Result<Vec<u8>, AllocError> {
@@ -161,9 +312,29 @@ fn two_jobs(alloc: Global, value: &[u8; 64]) -> Result<Vec<u8>, AllocError> {
     joined(
         alloc,
         &[
-            b"block 256\npace 10\nclient 1 dst\ntxn\n",
+            b"block 256\n\
+              pace 10\n\
+              client 1 dst\n\
+              txn\n",
             sets.as_slice(),
-            b"operator\nopen one src box\nopen two dst cask\ndump one \\e \\xff\ndump two \\e \\xff\ncut one\ncut two\nseal two\nschedule\nop\nop\nbegin 1\ncommit 1\nop\nop\nop\nop\nop\n",
+            b"operator\n\
+              open one src box\n\
+              open two dst cask\n\
+              dump one \\e \\xff\n\
+              dump two \\e \\xff\n\
+              cut one\n\
+              cut two\n\
+              seal two\n\
+              schedule\n\
+              op\n\
+              op\n\
+              begin 1\n\
+              commit 1\n\
+              op\n\
+              op\n\
+              op\n\
+              op\n\
+              op\n",
         ],
     )
 }
@@ -173,9 +344,21 @@ fn two_jobs_report(alloc: Global, value: &[u8; 64]) -> Result<Vec<u8>, AllocErro
     joined(
         alloc,
         &[
-            b"op open -> done\nop open -> done\nbegin 1 -> read 20\ncommit 1 -> commit 30\nop dump -> placed box/kvranges/snapshot.30/0/range,30,1,256\nop dump -> placed cask/kvranges/snapshot.30/0/range,30,2,256\nop cut -> placed box/logs/0/log,10,31,3,256\nop cut -> placed cask/logs/0/log,20,31,4,256\nop seal -> placed cask/snapshots/snapshot,30,30,416,5\nclient 1 txn 1 try 1 read 20 commit 30\nentry dst 30 client 1 1\n",
+            b"op open -> done\n\
+              op open -> done\n\
+              begin 1 -> read 20\n\
+              commit 1 -> commit 30\n\
+              op dump -> placed box/kvranges/snapshot.30/0/range,30,1,256\n\
+              op dump -> placed cask/kvranges/snapshot.30/0/range,30,2,256\n\
+              op cut -> placed box/logs/0/log,10,31,3,256\n\
+              op cut -> placed cask/logs/0/log,20,31,4,256\n\
+              op seal -> placed cask/snapshots/snapshot,30,30,416,5\n\
+              client 1 txn 1 try 1 read 20 commit 30\n\
+              entry dst 30 client 1 1\n",
             sets.as_slice(),
-            b"job 1 one hand running\njob 2 two hand running\nend 30\n",
+            b"job 1 one hand running\n\
+              job 2 two hand running\n\
+              end 30\n",
         ],
     )
 }
@@ -271,130 +454,199 @@ fn joined(alloc: Global, pieces: &[&[u8]]) -> Result<Vec<u8>, AllocError> {
     Ok(text)
 }
 
-// The operator stays at a command whose call on the store failed. A failure is the status where it is
-// the last event's.
+// The operator stays at a command whose call on the store failed.
 #[test]
-fn a_store_that_fails_is_a_line_and_the_last_event_the_status(rt: HostRuntime) -> Result<(), Fail> {
-    for (failing, status, said) in [
+fn a_failing_store_is_a_line_and_in_the_last_event_the_status(rt: HostRuntime) -> Result<(), Fail> {
+    let rows: [(u64, u8, &[u8]); 4] = [
         (
             1,
             0,
-            b"op open -> vault-fault\nop open -> done\nop dump -> placed box/kvranges/snapshot.10/0/range,10,1,256\nop cut -> placed box/logs/0/log,10,11,2,256\njob 1 default hand running\nend 10\n".as_slice(),
+            b"op open -> vault-fault\n\
+              op open -> done\n\
+              op dump -> placed box/kvranges/snapshot.10/0/range,10,1,256\n\
+              op cut -> placed box/logs/0/log,10,11,2,256\n\
+              job 1 default hand running\n\
+              end 10\n",
         ),
         (
             2,
             0,
-            b"op open -> done\nop dump -> vault-fault\nop dump -> placed box/kvranges/snapshot.10/0/range,10,1,256\nop cut -> placed box/logs/0/log,10,11,2,256\njob 1 default hand running\nend 10\n",
+            b"op open -> done\n\
+              op dump -> vault-fault\n\
+              op dump -> placed box/kvranges/snapshot.10/0/range,10,1,256\n\
+              op cut -> placed box/logs/0/log,10,11,2,256\n\
+              job 1 default hand running\n\
+              end 10\n",
         ),
         (
             3,
             0,
-            b"op open -> done\nop dump -> placed box/kvranges/snapshot.10/0/range,10,1,256\nop cut -> vault-fault\nop cut -> placed box/logs/0/log,10,11,2,256\njob 1 default hand running\nend 10\n",
+            b"op open -> done\n\
+              op dump -> placed box/kvranges/snapshot.10/0/range,10,1,256\n\
+              op cut -> vault-fault\n\
+              op cut -> placed box/logs/0/log,10,11,2,256\n\
+              job 1 default hand running\n\
+              end 10\n",
         ),
         (
             4,
             5,
-            b"op open -> done\nop dump -> placed box/kvranges/snapshot.10/0/range,10,1,256\nop cut -> placed box/logs/0/log,10,11,2,256\nop seal -> vault-fault\njob 1 default hand running\nend 10\nrefused vault-fault\n",
+            b"op open -> done\n\
+              op dump -> placed box/kvranges/snapshot.10/0/range,10,1,256\n\
+              op cut -> placed box/logs/0/log,10,11,2,256\n\
+              op seal -> vault-fault\n\
+              job 1 default hand running\n\
+              end 10\n\
+              refused vault-fault\n",
         ),
-    ] {
-        let text =
-            b"block 256\npace 10\noperator\nopen default src box\ndump default \\e \\xff\ncut default\nseal default\nschedule\nop\nop\nop\nop\n";
-        let vault = MemVault::new(rt.alloc(), &Files::new(rt.alloc()), &[failing])?;
-        let mut sink = MemSink::new(rt.alloc(), 1000, &[])?;
-        let exit = played_over(rt.alloc(), text, &[], vault, &mut sink)?;
-        assert_eq!(rt; exit.status, status);
-        assert!(rt; exit.report.is_some());
-        assert_eq!(rt; sink.written().as_slice(), said);
+    ];
+    for (store, status, said) in rows {
+        let failing = Failing { store, ..NONE };
+        assert!(rt; ends(rt.alloc(), FOUR_COMMANDS, failing, status, said)?);
     }
     Ok(())
 }
 
 #[test]
-fn commands_that_are_refused_are_lines(rt: HostRuntime) -> Result<(), Fail> {
-    for (text, said) in [
+fn a_refused_command_is_a_line(rt: HostRuntime) -> Result<(), Fail> {
+    let rows: [(&[u8], &[u8]); 4] = [
         // no job has the tag
         (
-            b"block 256\npace 10\noperator\ndump default \\e \\xff\nstatus default\nschedule\nop\nop\nop\n".as_slice(),
-            b"op dump -> refused no-job default\nop status -> never-ran\nop -> none\nend 0\n".as_slice(),
+            b"block 256\n\
+              pace 10\n\
+              operator\n\
+              dump default \\e \\xff\n\
+              status default\n\
+              schedule\n\
+              op\n\
+              op\n\
+              op\n",
+            b"op dump -> refused no-job default\n\
+              op status -> never-ran\n\
+              op -> none\n\
+              end 0\n",
         ),
         // a job was started in the container
         (
-            b"block 256\npace 10\noperator\nopen one src box\nopen two src box\nschedule\nop\nop\n",
-            b"op open -> done\nop open -> refused container-taken one\njob 1 one hand running\nend 10\n",
+            b"block 256\n\
+              pace 10\n\
+              operator\n\
+              open one src box\n\
+              open two src box\n\
+              schedule\n\
+              op\n\
+              op\n",
+            b"op open -> done\n\
+              op open -> refused container-taken one\n\
+              job 1 one hand running\n\
+              end 10\n",
         ),
         // nothing was dumped
         (
-            b"block 256\npace 10\noperator\nopen one src box\nseal one\nschedule\nop\nop\n",
-            b"op open -> done\nop seal -> refused untiled \\e\njob 1 one hand running\nend 10\n",
+            b"block 256\n\
+              pace 10\n\
+              operator\n\
+              open one src box\n\
+              seal one\n\
+              schedule\n\
+              op\n\
+              op\n",
+            b"op open -> done\n\
+              op seal -> refused untiled \\e\n\
+              job 1 one hand running\n\
+              end 10\n",
         ),
         // two jobs, of which one is ended
         (
-            b"block 256\npace 10\noperator\nopen one src box\nopen two dst cask\ndump two \\e \\xff\nabort one\nstatus one\nschedule\nop\nop\nop\nop\nop\n",
-            b"op open -> done\nop open -> done\nop dump -> placed cask/kvranges/snapshot.20/0/range,20,1,256\nop abort -> done\nop status -> aborted\njob 1 one hand aborted\njob 2 two hand running\nend 20\n",
+            b"block 256\n\
+              pace 10\n\
+              operator\n\
+              open one src box\n\
+              open two dst cask\n\
+              dump two \\e \\xff\n\
+              abort one\n\
+              status one\n\
+              schedule\n\
+              op\n\
+              op\n\
+              op\n\
+              op\n\
+              op\n",
+            b"op open -> done\n\
+              op open -> done\n\
+              op dump -> placed cask/kvranges/snapshot.20/0/range,20,1,256\n\
+              op abort -> done\n\
+              op status -> aborted\n\
+              job 1 one hand aborted\n\
+              job 2 two hand running\n\
+              end 20\n",
         ),
-    ] {
-        let mut sink = MemSink::new(rt.alloc(), 1000, &[])?;
-        let exit = played(rt.alloc(), text, &[], &mut sink)?;
-        assert_eq!(rt; exit.status, 0);
-        assert_eq!(rt; sink.written().as_slice(), said);
+    ];
+    for (text, said) in rows {
+        assert!(rt; ends(rt.alloc(), text, NONE, 0, said)?);
     }
     Ok(())
 }
 
 #[test]
 fn a_container_with_a_file_is_in_use(rt: HostRuntime) -> Result<(), Fail> {
-    let mut files = Files::new(rt.alloc());
+    assert!(rt; leaves_a_file(rt.alloc())?);
+    Ok(())
+}
+
+// Whether an open is refused for a file of its container, and leaves it.
+fn leaves_a_file(alloc: Global) -> Result<bool, AllocError> {
+    let mut files = Files::new(alloc);
     files.put(File {
-        name: Text::from_str(rt.alloc(), "box/x")?,
-        bytes: Blob::from_slice(rt.alloc(), b"y")?,
+        name: Text::from_str(alloc, "box/x")?,
+        bytes: Blob::from_slice(alloc, b"y")?,
     })?;
-    let vault = MemVault::new(rt.alloc(), &files, &[])?;
-    let text = b"block 256\npace 10\noperator\nopen default src box\nschedule\nop\n";
-    let mut sink = MemSink::new(rt.alloc(), 1000, &[])?;
-    let exit = played_over(rt.alloc(), text, &[], vault, &mut sink)?;
-    assert_eq!(rt; exit.status, 0);
-    assert_eq!(rt;
-        sink.written().as_slice(),
-        b"op open -> refused container-in-use x\nend 0\n".as_slice()
+    let vault = MemVault::new(alloc, &files, &[])?;
+    let text = b"block 256\n\
+        pace 10\n\
+        operator\n\
+        open default src box\n\
+        schedule\n\
+        op\n";
+    let said = b"op open -> refused container-in-use x\nend 0\n";
+    let mut sink = MemSink::new(alloc, 1000, &[])?;
+    let exit = played_over(alloc, text, &[], vault, &mut sink)?;
+    Ok(
+        exit.status == 0
+            && is_same(sink.written().as_slice(), said)
+            && has_file(exit.vault.files(), b"box/x", b"y"),
+    )
+}
+
+#[test]
+fn a_failing_source_is_a_refusal(rt: HostRuntime) -> Result<(), Fail> {
+    for source in [1, 2] {
+        let failing = Failing { source, ..NONE };
+        assert!(rt; ends(rt.alloc(), SMALLEST, failing, 3, b"refused source-fault\n")?);
+    }
+    Ok(())
+}
+
+#[test]
+fn a_sink_that_fails_at_once_holds_nothing(rt: HostRuntime) -> Result<(), Fail> {
+    let failing = Failing { sink: 1, ..NONE };
+    assert!(rt; ends(rt.alloc(), SMALLEST, failing, 4, b"")?);
+    Ok(())
+}
+
+#[test]
+fn a_text_that_is_not_built_names_its_line(rt: HostRuntime) -> Result<(), Fail> {
+    let alloc = rt.alloc();
+    assert!(rt; ends(alloc, b"", NONE, 15, b"refused not-built 1\n")?);
+    assert!(rt;
+        ends(
+            alloc,
+            b"block 256\npace 9\n",
+            NONE,
+            15,
+            b"refused not-built 2\n"
+        )?
     );
-    assert!(rt; has_file(exit.vault.files(), b"box/x", b"y"));
-    Ok(())
-}
-
-#[test]
-fn a_source_that_fails_is_a_source_fault(rt: HostRuntime) -> Result<(), Fail> {
-    for failing in [1, 2] {
-        let mut sink = MemSink::new(rt.alloc(), 1000, &[])?;
-        let exit = played(rt.alloc(), EXAMPLE, &[failing], &mut sink)?;
-        assert_eq!(rt; exit.status, 3);
-        assert_eq!(rt;
-            sink.written().as_slice(),
-            b"refused source-fault\n".as_slice()
-        );
-    }
-    Ok(())
-}
-
-#[test]
-fn a_sink_that_fails_holds_nothing(rt: HostRuntime) -> Result<(), Fail> {
-    let mut sink = MemSink::new(rt.alloc(), 1000, &[1])?;
-    let exit = played(rt.alloc(), EXAMPLE, &[], &mut sink)?;
-    assert_eq!(rt; exit.status, 4);
-    assert!(rt; sink.written().is_empty());
-    Ok(())
-}
-
-#[test]
-fn texts_that_are_not_built_name_their_line(rt: HostRuntime) -> Result<(), Fail> {
-    for (text, said) in [
-        (b"".as_slice(), b"refused not-built 1\n".as_slice()),
-        (b"block 256\npace 9\n", b"refused not-built 2\n"),
-    ] {
-        let mut sink = MemSink::new(rt.alloc(), 1000, &[])?;
-        let exit = played(rt.alloc(), text, &[], &mut sink)?;
-        assert_eq!(rt; exit.status, 15);
-        assert_eq!(rt; sink.written().as_slice(), said);
-    }
     Ok(())
 }
 
@@ -434,12 +686,15 @@ impl Sink for Dropper {
 
 #[test]
 fn a_sink_may_take_a_byte_at_a_time(rt: HostRuntime) -> Result<(), Fail> {
+    assert!(rt; drops_bytes(rt.alloc())?);
+    Ok(())
+}
+
+fn drops_bytes(alloc: Global) -> Result<bool, AllocError> {
     let mut sink = Dropper {
-        bytes: Vec::new(rt.alloc()),
+        bytes: Vec::new(alloc),
         faults: 0,
     };
-    let exit = played(rt.alloc(), EXAMPLE, &[], &mut sink)?;
-    assert_eq!(rt; exit.status, 0);
-    assert_eq!(rt; sink.bytes.as_slice(), REPORT);
-    Ok(())
+    let exit = played(alloc, SMALLEST, &[], &mut sink)?;
+    Ok(exit.status == 0 && is_same(sink.bytes.as_slice(), SMALLEST_REPORT))
 }
