@@ -23,7 +23,8 @@ use Rattle.cluster_core.specs.Jobs.{JobTold, job_told}
 use Rattle.cluster_core.specs.State.{State, on_side, opening}
 use Rattle.cluster_core.specs.Step.{Step}
 use Rattle.cluster_core.specs.Sound.{IsOrdered, other_side}
-use Rattle.workload_text.specs.Kinds.{CommandKind, kind_of}
+use Rattle.workload_text.specs.declared.CommandKind.{CommandKind}
+use Rattle.workload_text.specs.Kinds.{kind_of}
 use Rattle.report_text.specs.declared.EventLine.{EventLine}
 use Rattle.report_text.specs.declared.RunReport.{RunReport}
 use Rattle.report_text.specs.declared.Report.{Report}

@@ -42,7 +42,8 @@ use Rattle.cluster_core.specs.declared.Answer.TheVariants.{
 }
 use Rattle.cluster_core.specs.declared.StepFault.{StepFault}
 use Rattle.cluster_core.specs.declared.StepFault.TheVariants.{VaultFault, VersionsSpent, NoMemory}
-use Rattle.workload_text.specs.Kinds.{CommandKind, command_word}
+use Rattle.workload_text.specs.declared.CommandKind.{CommandKind}
+use Rattle.workload_text.specs.Kinds.{command_word}
 use Rattle.report_text.specs.declared.report.EventLine.{EventLine}
 use Rattle.report_text.specs.Lines.{line}
 use Rattle.report_text.specs.Outcomes.{end_words}

@@ -3,7 +3,8 @@
 ghost use Rattle.std.specs.Prelude.{◌≡◌, ◌∷◌, ◌++◌, codes, decimal, OnOk};
 ghost use Rattle.std.specs.List.{flat_map};
 ghost use Rattle.report_text.specs.Lines.{behind, line};
-ghost use Rattle.report_text.specs.Events.{command_word, command_words, reply_words, event_line};
+ghost use Rattle.workload_text.specs.Kinds.{command_word};
+ghost use Rattle.report_text.specs.Events.{command_words, reply_words, event_line};
 
 use crate::EventLine;
 use crate::answers::put_reply;
@@ -11,7 +12,7 @@ use crate::words::{put, put_field};
 use cluster_core::{Answer, StepFault};
 use fb_bytes::Blob;
 use std::alloc::{AllocError, Global};
-use workload_text::ScheduleLine;
+use workload_text::{CommandKind, ScheduleLine};
 
 /// The lines of all events.
 pub fn put_events(alloc: Global, out: &mut Blob, events: &[EventLine]) -> Result<(), AllocError>

@@ -2,7 +2,7 @@ use client_core::Outcomes;
 use cluster_core::{Answer, Jobs, StepFault};
 use fb_bytes::{Pairs, Seq};
 use mutations::History;
-use workload_text::ScheduleLine;
+use workload_text::{CommandKind, ScheduleLine};
 
 /// An event of a schedule, and what it was answered.
 #[derive(Debug, Drop)]

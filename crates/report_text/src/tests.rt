@@ -9,12 +9,12 @@ use block_frame::Profile;
 use client_core::{Client, End, Outcomes};
 use cluster_core::{Answer, JobState, Refusal, StepFault};
 use database::{CommitFault, Db};
-use fb_bytes::{Blob, KeyRange, Ranges, Seq, Text};
+use fb_bytes::{Blob, Seq, SharedSeq, Text};
 use mutations::{History, Mutation, TxOp, TxOps, Who};
 use std::alloc::{AllocError, Global};
 use std::test::Fail;
 use versioned_kv::Versions;
-use workload_text::{ClientScript, Command, ScheduleLine, Side};
+use workload_text::{ClientScript, CommandKind, ScheduleLine, Side};
 
 // A client on src with one transaction, which sets `a` to `1`.
 fn script(alloc: Global) -> Result<ClientScript, AllocError> {
@@ -293,64 +293,6 @@ fn jobs_in_each_state(rt: HostRuntime) -> Result<(), Fail> {
         let mut out = Blob::new(rt.alloc());
         put_job(&mut out, number, &tag, state)?;
         assert_eq!(rt; out.as_slice(), text);
-    }
-    Ok(())
-}
-
-#[test]
-fn kinds_of_commands(rt: HostRuntime) -> Result<(), Fail> {
-    let alloc = rt.alloc();
-    let list = [KeyRange {
-        begin: Blob::new(alloc),
-        end: Blob::from_slice(alloc, b"m")?,
-    }];
-    let ranges = Ranges::build(alloc, &list);
-    assert!(rt; ranges.is_ok());
-    if let Ok(ranges) = ranges {
-        let open = Command::Open {
-            tag: Text::new(alloc),
-            side: Side::Src,
-            container: Text::new(alloc),
-            ranges,
-        };
-        assert_eq!(rt; CommandKind::of(&open), CommandKind::Open);
-    }
-    let dump = Command::Dump {
-        tag: Text::new(alloc),
-        piece: KeyRange {
-            begin: Blob::new(alloc),
-            end: Blob::from_slice(alloc, b"m")?,
-        },
-    };
-    assert_eq!(rt; CommandKind::of(&dump), CommandKind::Dump);
-    let rows = [
-        (
-            Command::Cut {
-                tag: Text::new(alloc),
-            },
-            CommandKind::Cut,
-        ),
-        (
-            Command::Seal {
-                tag: Text::new(alloc),
-            },
-            CommandKind::Seal,
-        ),
-        (
-            Command::Abort {
-                tag: Text::new(alloc),
-            },
-            CommandKind::Abort,
-        ),
-        (
-            Command::Status {
-                tag: Text::new(alloc),
-            },
-            CommandKind::Status,
-        ),
-    ];
-    for (command, kind) in rows {
-        assert_eq!(rt; CommandKind::of(&command), kind);
     }
     Ok(())
 }
