@@ -20,7 +20,7 @@ use Rattle.cluster_core.specs.declared.Refusal.TheVariants.{TagBusy, WrongState,
 use Rattle.cluster_core.specs.Jobs.{Job, Found, newest, started_in, state_of_job}
 use Rattle.cluster_core.specs.State.{State, client_at, with_job}
 use Rattle.cluster_core.specs.Moves.{Luck, Fine, FailsOld, FailsNew, Starved, is_starved, Moved, moved}
-use Rattle.cluster_core.specs.Commands.{done, refuses, new_job, starts, names_listed, open_over, open_listed, open_untaken, is_busy, open_job, puts, putting, dump_name, dump_bytes, with_dump, cut_name, cut_bytes, with_cut, seal_name, with_seal, dump_tested, dump_piece, cut_put, cut_log, seal_tested, seal_job, abort_job, on_running, on_found, command_gives, operator_with}
+use Rattle.cluster_core.specs.Commands.{done, refuses, new_job, starts, names_listed, open_over, open_listed, open_untaken, is_busy, open_job, puts, putting, dump_name, dump_bytes, with_dump, cut_name, cut_bytes, with_cut, seal_name, with_seal, dump_tested, dump_piece, cut_put, cut_log, seal_fitting, seal_tested, seal_job, abort_job, on_running, on_found, command_gives, operator_with}
 use Rattle.cluster_core.specs.Step.{begin_with, commit_with, try_in, event_gives, step, Step}
 
 -- where there was no memory the state is as it was
@@ -62,9 +62,17 @@ cut_stays s w found luck = go (nat_lt w.time found.job.hand.next)
     go true = fine w _ _
     go false = putting_stays w (whole_name found.job.container (cut_name s w found.job)) (cut_bytes s w found.job) (with_job found.place (with_cut w found.job) w) luck
 
+-- more bytes than a name has room for are want of memory
+unless_short : (w : State) (b : Bool) (next : Moved) → Stays w next → Stays w (cond b (moved (Err NoMemory) w) next)
+unless_short w true next k = same w _
+unless_short w false next k = k
+
+fitting_stays : (w : State) (found : Found) (luck : Luck) → Stays w (seal_fitting w found luck)
+fitting_stays w found luck = putting_stays w (whole_name found.job.container (seal_name w found.job)) _ (with_job found.place (with_seal found.job) w) luck
+
 seal_stays : (w : State) (found : Found) (luck : Luck) (o : Option Bytes) → Stays w (seal_tested w found luck o)
 seal_stays w found luck (Some key) = fine w _ _
-seal_stays w found luck None = putting_stays w (whole_name found.job.container (seal_name w found.job)) _ (with_job found.place (with_seal found.job) w) luck
+seal_stays w found luck None = unless_short w _ (seal_fitting w found luck) (fitting_stays w found luck)
 
 running_stays : (w : State) (f : Found → Moved) (found : Found) → Stays w (f found) → Stays w (on_running w f found)
 running_stays w f found k = go found.job.hand.aborted
