@@ -108,7 +108,7 @@ impl Db {
             self.now.logs tx.now.ops.now ≡ Err fault)) }
     {
         match fault_of(tx.ops.as_slice(), self.profile.key, self.profile.value) {
-            Some(fault) => Err(CommitFault::from(fault)),
+            Some(fault) => Err(CommitFault::of_transaction(fault)),
             None => match version_taken(versions, &self.logs, tx.ops) {
                 Ok(version) => Ok(Committed { version }),
                 Err(fault) => Err(fault),

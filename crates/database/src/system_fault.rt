@@ -10,7 +10,7 @@ pub enum SystemFault {
     VersionsSpent { version: u64 },
     /// A job that logs would log 2^32 mutation bytes or more at once; it is their number for the job
     /// with the least number.
-    LogTooLarge { bytes: u128 },
+    LogTooLarge { bytes: u64 },
     /// There was no memory.
     NoMemory,
 }

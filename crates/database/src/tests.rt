@@ -268,3 +268,12 @@ fn a_commit_that_a_log_has_no_room_for_is_refused(rt: HostRuntime) -> Result<(),
     assert!(rt; db.history().is_empty());
     Ok(())
 }
+
+fn crosses<T: Send + Sync>() {}
+
+/// Threads may hand these on and share them.
+#[test]
+fn types_cross_threads() {
+    crosses::<Db>();
+    crosses::<CommitFault>();
+}

@@ -10,6 +10,7 @@ ghost use Rattle.mutations.specs.Transactions.{writes_of};
 ghost use Rattle.versioned_kv.specs.Applied.{Holds};
 ghost use Rattle.database.specs.Commits.{version_taken, large_in, large_of};
 
+use crate::commit_fault::narrowed;
 use crate::{CommitFault, JobLog};
 use fb_bytes::Ranges;
 use mutations::{Entry, History, TxOp, TxOps, clipped_bytes};
@@ -48,7 +49,7 @@ pub fn version_taken(
 }
 
 /// The bytes that the first of the logs for which they are too many would take. Nothing is built.
-fn large_in(logs: &[JobLog], ops: &[TxOp]) -> Result<Option<u128>, AllocError>
+fn large_in(logs: &[JobLog], ops: &[TxOp]) -> Result<Option<u64>, AllocError>
     ensures { IfOk result (λ found. found ≡ large_in logs.now (writes_of ops.now)) }
 {
     for log in logs {
@@ -63,12 +64,15 @@ fn large_in(logs: &[JobLog], ops: &[TxOp]) -> Result<Option<u128>, AllocError>
 
 /// The bytes that a log would take, where they are too many. No memory holds as many as can't be
 /// counted.
-fn large_of(log: &JobLog, ops: &[TxOp]) -> Result<Option<u128>, AllocError>
+fn large_of(log: &JobLog, ops: &[TxOp]) -> Result<Option<u64>, AllocError>
     ensures { IfOk result (λ found. found ≡ large_of log.now (writes_of ops.now)) }
 {
     match clipped_writes(ops, &log.ranges) {
         Some(bytes) if bytes < TOO_MANY => Ok(None),
-        Some(bytes) => Ok(Some(bytes)),
+        Some(bytes) => match narrowed(bytes) {
+            Some(bytes) => Ok(Some(bytes)),
+            None => Err(AllocError),
+        },
         None => Err(AllocError),
     }
 }

@@ -138,7 +138,7 @@ fn make_steps<V: Vault>(
         world.old.faults world.new.faults }
     ensures workload { world.new.workload ≡ world.old.workload }
 {
-    let mut lines = Seq::new(alloc);
+    let mut lines = Seq::from_vec(Vec::with_capacity(alloc, schedule.len())?);
     for line in schedule {
         let event_line = make_step(world, *line)?;
         lines.push(event_line)?;

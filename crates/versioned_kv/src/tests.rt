@@ -1,7 +1,7 @@
 ghost use Rattle.std.specs.Prelude.{◌≡◌, ◌<◌, ◌≤◌, ◌+◌, length};
 ghost use Rattle.versioned_kv.specs.Chains.{rows_of};
 
-use crate::{Steps, Store};
+use crate::{Steps, Store, Versions};
 use atomic_ops::Op;
 use fb_bytes::{Blob, KeyRange};
 use mutations::{Mutation, Muts};
@@ -293,4 +293,13 @@ fn short_sequences_leave_what_a_plain_list_has(rt: HostRuntime) -> Result<(), Fa
         }
     }
     Ok(())
+}
+
+fn crosses<T: Send + Sync>() {}
+
+/// Threads may hand these on and share them.
+#[test]
+fn types_cross_threads() {
+    crosses::<Store>();
+    crosses::<Versions>();
 }

@@ -307,3 +307,11 @@ fn texts_without_some_parts(rt: HostRuntime) {
         assert_eq!(rt; bad_line(rt, text), 99);
     }
 }
+
+fn crosses<T: Send + Sync>() {}
+
+/// Threads may hand these on and share them.
+#[test]
+fn types_cross_threads() {
+    crosses::<Workload>();
+}

@@ -71,7 +71,8 @@ impl Chain {
     pub fn of_row(alloc: Global, key: &[u8], row: Row) -> Result<Self, AllocError>
         ensures { IfOk result (λ chain. chain ≡ record { key = key.now; rows = row ∷ [] }) }
     {
-        let mut rows = Table::new(alloc);
+        // Most keys have one row.
+        let mut rows = Table::with_capacity(alloc, 1)?;
         rows.push(row)?;
         let key = Blob::from_slice(alloc, key)?;
         Ok(Chain { key, rows })

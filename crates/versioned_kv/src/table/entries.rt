@@ -32,6 +32,14 @@ impl<T> Table<T> {
         }
     }
 
+    /// No entries, with memory for so many.
+    pub fn with_capacity(alloc: Global, capacity: usize) -> Result<Self, AllocError>
+        ensures { IfOk result (λ table. table ≡ []) }
+    {
+        let items = Vec::with_capacity(alloc, capacity)?;
+        Ok(Table { items })
+    }
+
     pub fn allocator(&self) -> Global {
         *self.items.allocator()
     }

@@ -1,4 +1,4 @@
-use Rattle.std.proofs.Common.{◌∙◌, arith, subst, sym}
+use Rattle.std.proofs.Common.{◌∙◌, [], arith, refl, subst, sym}
 use Rattle.report_text.specs.declared.EventLine.{EventLine}
 use Rattle.std.specs.Prelude.{List}
 use Rattle.fb_cli.specs.Causes.{RoseInEach}
@@ -23,3 +23,6 @@ returns-in_err-push-clause-front g c = step_front c.args.world.now.workload c.lo
 
 pub returns-clause-front : goal.returns-clause-front
 returns-clause-front g c = front_at c.args.world.now.workload c.args.world.now.state c.loop-line.world.state c.args.schedule.now c.loop-line.line-index c.loop-line.lines c.args.world.now.faults c.loop-line.world.faults c.loop-line.invariant.run c.loop-line.invariant.lines c.loop-line.invariant.causes
+
+pub returns-in_err-with_capacity-clause-front : goal.returns-in_err-with_capacity-clause-front
+returns-in_err-with_capacity-clause-front g c = front_at c.args.world.now.workload c.args.world.now.state c.args.world.now.state c.args.schedule.now 0 [] c.args.world.now.faults c.args.world.now.faults refl refl (omega arith)
