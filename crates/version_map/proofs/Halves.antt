@@ -1,15 +1,15 @@
 -- The piece that has a key, and those that have keys of a range, by halving.
 use Rattle.std.proofs.Common.{◌≡◌, ℕ, zero, suc, ◌+◌, ◌<◌, ◌≤◌, Bool, true, false, not, ◌&&◌, cond, List, [], ◌∷◌, ◌++◌, length, get_or, take, drop, Option, Some, None, refl, sym, ap, ◌∙◌, subst, arith}
 use Rattle.std.specs.List.{prefix_len, slice_get, AllByRecursion}
-use Rattle.std.specs.List.Sorted.{IsPartitionedBy, IsPartitionPoint}
 use Rattle.std.proofs.lemmas.Bool.{cond-true, cond-false}
 use Rattle.std.proofs.lemmas.Option.{slice_get_read}
-use Rattle.fb_bytes.proofs.Halving.{Falls, parted, halved}
+use Rattle.fb_bytes.proofs.Halving.{Falls}
 use Rattle.fb_bytes.specs.Bytes.{Bytes, is_below}
 use Rattle.fb_bytes.specs.declared.KeyRange.{KeyRange}
 use Rattle.fb_bytes.specs.Keys.{holds, is_backwards}
 use Rattle.fb_bytes.proofs.Order.{not_both, below_trans, below_up, below_down, below_itself, below_not_back}
 use Rattle.version_map.specs.Pieces.{Piece, version_at, ArePieces}
+pub use Rattle.version_map.specs.Pieces.{is_past, is_begun}
 use Rattle.version_map.specs.Parts.{part_of, parts_between, within}
 use Rattle.version_map.proofs.Held.{by_test, not_false}
 use Rattle.version_map.proofs.Cuts.{AreFrom, all_from, none_before, at_or_past}
@@ -21,21 +21,13 @@ one_first : (n : ℕ) → suc n ≡ 1 + n
 one_first n = omega arith
 
 -- how many stand in front, where the first passes and where it doesn't
-counted : {A : Type 0} (p : A → Bool) (x : A) (xs : List A) → p x ≡ true → prefix_len p (x ∷ xs) ≡ suc (prefix_len p xs)
+pub counted : {A : Type 0} (p : A → Bool) (x : A) (xs : List A) → p x ≡ true → prefix_len p (x ∷ xs) ≡ suc (prefix_len p xs)
 counted p x xs e = cond-true (p x) (1 + prefix_len p xs) 0 e ∙ sym (one_first (prefix_len p xs))
 
-uncounted : {A : Type 0} (p : A → Bool) (x : A) (xs : List A) → p x ≡ false → prefix_len p (x ∷ xs) ≡ 0
+pub uncounted : {A : Type 0} (p : A → Bool) (x : A) (xs : List A) → p x ≡ false → prefix_len p (x ∷ xs) ≡ 0
 uncounted p x xs e = cond-false (p x) (1 + prefix_len p xs) 0 e
 
 -- ---- pieces in order
-
--- the key is at the end of the piece or past it
-abbrev pub is_past : Bytes → Piece → Bool
-is_past key piece = not (is_below key piece.range.end)
-
--- the piece begins below the key
-abbrev pub is_begun : Bytes → Piece → Bool
-is_begun key piece = is_below piece.range.begin key
 
 ends_past : (key end : Bytes) (xs : List Piece) → is_below key end ≡ true → AreFrom end xs → ArePieces xs → AllByRecursion (λ y. is_past key y ≡ false) xs
 ends_past key end [] b h l = tt

@@ -3,3 +3,4 @@ mod Sets
 mod Cuts
 mod Parts
 mod Halves
+mod Splices

@@ -13,6 +13,8 @@ use Rattle.std.specs.Prelude.{
   None,
   flat_map,
   if◌then◌else◌,
+  Bool,
+  not,
 }
 use Rattle.fb_bytes.specs.Bytes.{Bytes, is_below}
 use Rattle.fb_bytes.specs.declared.KeyRange.{KeyRange}
@@ -66,3 +68,11 @@ ArePieces [] = Unit {0}
 ArePieces (piece ∷ pieces) =
     (is_below piece.range.begin piece.range.end ≡ true) × BeginFrom piece.range.end pieces
     × ArePieces pieces
+
+-- the key is at the end of the piece or past it
+abbrev pub is_past : Bytes → Piece → Bool
+is_past key piece = not (is_below key piece.range.end)
+
+-- the piece begins below the key
+abbrev pub is_begun : Bytes → Piece → Bool
+is_begun key piece = is_below piece.range.begin key

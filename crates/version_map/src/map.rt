@@ -1,11 +1,13 @@
-ghost use Rattle.std.specs.Prelude.{◌≡◌, ◌++◌, List, [], flat_map, IfOk, OnOk, OnErr};
-ghost use Rattle.version_map.specs.Pieces.{Piece, version_at, with_set, front_of, back_of, ArePieces};
+ghost use Rattle.std.specs.Prelude.{◌≡◌, ◌≤◌, ◌+◌, ◌++◌, ◌∷◌, false, List, [], length, take, drop, flat_map, IfOk, OnOk, OnErr};
+ghost use Rattle.std.specs.List.{prefix_len};
+ghost use Rattle.fb_bytes.specs.Keys.{is_backwards};
+ghost use Rattle.version_map.specs.Pieces.{Piece, version_at, with_set, front_of, back_of, is_past, is_begun, ArePieces};
 ghost use Rattle.version_map.specs.Parts.{parts_of};
 ghost use Rattle.version_map.specs.Laws.{ArePartsOf};
 
 use crate::keys::{earlier, later};
 use crate::piece::push_piece;
-use crate::places::{among, version_in};
+use crate::places::{among, begun, passed, version_in};
 use crate::versioned::push_part;
 use crate::{Piece, Versioned};
 use fb_bytes::{Blob, KeyRange, is_below};
@@ -50,11 +52,7 @@ impl VersionMap {
         if range.is_backwards() {
             return Ok(());
         }
-        let mut pieces = fronts(*self.pieces.allocator(), &self.pieces, &range.begin)?;
-        push_piece(&mut pieces, &range.begin, &range.end, version)?;
-        push_backs(&mut pieces, &self.pieces, &range.end)?;
-        self.pieces = pieces;
-        Ok(())
+        set_on(&mut self.pieces, range, version)
     }
 
     /// The version of the last set whose range has the key. It takes no memory.
@@ -92,6 +90,83 @@ impl VersionMap {
         push_part(&mut parts, begin, &range.end, None)?;
         Ok(Versioned::from_vec(parts))
     }
+}
+
+/// Puts the range with its version in place of what stands there, and changes no other piece.
+fn set_on(pieces: &mut Vec<Piece>, range: &KeyRange, version: u64) -> Result<(), AllocError>
+    requires pieces { ArePieces pieces.old.items }
+    requires forward { is_backwards range.now ≡ false }
+    ensures ok { OnOk result
+        (pieces.new.items ≡ flat_map (front_of range.now.begin) pieces.old.items
+        ++ record { range = range.now; version = version }
+        ∷ flat_map (back_of range.now.end) pieces.old.items) }
+    ensures err { OnErr result (pieces.new.items ≡ pieces.old.items) }
+    ensures pieces { ArePieces pieces.new.items }
+{
+    let first = passed(pieces, range.begin.as_slice());
+    let last = begun(pieces, range.end.as_slice());
+    let count = run_len(pieces, range, first, last);
+    let alloc = *pieces.allocator();
+    let run = &pieces[first..];
+    let cut = cut_by(alloc, &run[..count], range, version)?;
+    insert_all(pieces, last, cut)?;
+    take_out(pieces, first, count);
+    Ok(())
+}
+
+/// How many pieces stand from the first that doesn't end before the range to the last that begins
+/// before its end.
+fn run_len(pieces: &[Piece], range: &KeyRange, first: usize, last: usize) -> usize
+    requires pieces { ArePieces pieces.now }
+    requires forward { is_backwards range.now ≡ false }
+    requires first { first ≡ prefix_len (is_past range.now.begin) pieces.now }
+    requires last { last ≡ prefix_len (is_begun range.now.end) pieces.now }
+    ensures { result + first ≡ last }
+{
+    last - first
+}
+
+/// Puts pieces in at a place. Without memory nothing changes.
+fn insert_all(pieces: &mut Vec<Piece>, place: usize, more: Vec<Piece>) -> Result<(), AllocError>
+    requires { place ≤ length pieces.old.items }
+    ensures ok { OnOk result (pieces.new.items ≡ take place pieces.old.items ++ more.items
+        ++ drop place pieces.old.items) }
+    ensures err { OnErr result (pieces.new.items ≡ pieces.old.items) }
+{
+    let mut more = more;
+    let count = more.len();
+    pieces.append(&mut more)?;
+    pieces[place..].rotate_right(count);
+    Ok(())
+}
+
+/// Takes so many pieces out from a place on.
+fn take_out(pieces: &mut Vec<Piece>, first: usize, count: usize)
+    requires { first + count ≤ length pieces.old.items }
+    ensures { pieces.new.items ≡ take first pieces.old.items
+        ++ drop (first + count) pieces.old.items }
+{
+    let rest = pieces.len() - count;
+    pieces[first..].rotate_left(count);
+    pieces.truncate(rest);
+}
+
+/// The range with its version, between what is left of the pieces before it and behind it.
+fn cut_by(
+    alloc: Global,
+    pieces: &[Piece],
+    range: &KeyRange,
+    version: u64,
+) -> Result<Vec<Piece>, AllocError>
+    requires { is_backwards range.now ≡ false }
+    ensures { IfOk result (λ cut. cut.items ≡ flat_map (front_of range.now.begin) pieces.now
+        ++ record { range = range.now; version = version } ∷ flat_map
+        (back_of range.now.end) pieces.now) }
+{
+    let mut cut = fronts(alloc, pieces, &range.begin)?;
+    push_piece(&mut cut, &range.begin, &range.end, version)?;
+    push_backs(&mut cut, pieces, &range.end)?;
+    Ok(cut)
 }
 
 /// What is left of the pieces before a key.

@@ -1,10 +1,9 @@
 //! Where pieces stand, by halving.
 
 ghost use Rattle.std.specs.List.{prefix_len};
-ghost use Rattle.std.specs.Prelude.{◌≡◌, ◌≤◌, not, length};
-ghost use Rattle.fb_bytes.specs.Bytes as bytes;
+ghost use Rattle.std.specs.Prelude.{◌≡◌, ◌≤◌, length};
 ghost use Rattle.version_map.specs.Parts.{parts_of};
-ghost use Rattle.version_map.specs.Pieces.{ArePieces, version_at};
+ghost use Rattle.version_map.specs.Pieces.{ArePieces, is_past, is_begun, version_at};
 
 use crate::Piece;
 use fb_bytes::{KeyRange, is_below};
@@ -35,21 +34,19 @@ pub(crate) fn among<'a>(pieces: &'a [Piece], range: &KeyRange) -> &'a [Piece]
     &rest[..begun(rest, range.end.as_slice())]
 }
 
-// How many pieces at the front the key is past.
-fn passed(pieces: &[Piece], key: &[u8]) -> usize
+/// How many pieces at the front the key is past.
+pub(crate) fn passed(pieces: &[Piece], key: &[u8]) -> usize
     requires { ArePieces pieces.now }
-    ensures count { result
-        ≡ prefix_len (λ piece. not (bytes.is_below key.now piece.range.end)) pieces.now }
+    ensures count { result ≡ prefix_len (is_past key.now) pieces.now }
     ensures within { result ≤ length pieces.now }
 {
     pieces.partition_point(|piece| !is_below(key, piece.range.end.as_slice()))
 }
 
-// How many pieces at the front begin below the key.
-fn begun(pieces: &[Piece], key: &[u8]) -> usize
+/// How many pieces at the front begin below the key.
+pub(crate) fn begun(pieces: &[Piece], key: &[u8]) -> usize
     requires { ArePieces pieces.now }
-    ensures count { result
-        ≡ prefix_len (λ piece. bytes.is_below piece.range.begin key.now) pieces.now }
+    ensures count { result ≡ prefix_len (is_begun key.now) pieces.now }
     ensures within { result ≤ length pieces.now }
 {
     pieces.partition_point(|piece| is_below(piece.range.begin.as_slice(), key))
