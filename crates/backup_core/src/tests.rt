@@ -105,11 +105,3 @@ fn crosses<T: Send + Sync>() {}
 fn the_job_crosses_threads() {
     crosses::<BackupJob>();
 }
-
-fn crosses<T: Send + Sync>() {}
-
-/// Threads may hand these on and share them.
-#[test]
-fn types_cross_threads() {
-    crosses::<BackupJob>();
-}

@@ -139,12 +139,3 @@ fn types_cross_threads() {
     crosses::<MapFault>();
     crosses::<Noted>();
 }
-
-fn crosses<T: Send + Sync>() {}
-
-/// Threads may hand these on and share them.
-#[test]
-fn types_cross_threads() {
-    crosses::<FileMap>();
-    crosses::<Done>();
-}
