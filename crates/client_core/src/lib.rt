@@ -4,6 +4,8 @@
 mod client;
 mod outcome;
 mod outcomes;
+#[cfg(test)]
+mod tests;
 
 pub use client::Client;
 pub use outcome::{End, Outcome};

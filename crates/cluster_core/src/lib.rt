@@ -11,6 +11,8 @@ mod logging;
 mod plan;
 mod planning;
 mod refusal;
+#[cfg(test)]
+mod tests;
 mod world;
 
 pub use event::{Answer, Event, StepFault};

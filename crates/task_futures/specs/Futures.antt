@@ -158,8 +158,7 @@ abbrev pub left : List Part → ℕ → List ℕ → List ℕ
 left pending number blocks = filter (λ b. not (falls pending number b)) blocks
 
 -- A future that is set passes its joins on, and keeps none. Parts have lesser numbers than joins,
--- so
--- one way through the list settles all.
+-- so one way through the list settles all.
 abbrev pub kept_joins : List ℕ → List Part → List Part
 kept_joins [] joins = []
 kept_joins (b ∷ bs) joins = joins
