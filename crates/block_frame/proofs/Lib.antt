@@ -1,5 +1,4 @@
 pub mod Frames
 pub mod Strings
 pub mod Padding
-pub mod Steps
 pub mod Pieces

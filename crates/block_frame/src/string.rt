@@ -53,12 +53,19 @@ pub fn unpadded_at(bytes: &[u8]) -> Option<usize>
     bytes.iter().position(|byte| !(*byte == 0xff))
 }
 
-/// Writes a string behind its length, at the end.
+/// Writes a string behind its length, at the end. Without memory nothing is written.
 pub fn push_string(out: &mut Vec<u8>, string: &[u8]) -> Result<(), AllocError>
     requires { length string.now < 2 ^ 32 }
-    ensures { OnOk result (out.new.items ≡ out.old.items ++ text.string string.now) }
+    ensures ok { OnOk result (out.new.items ≡ out.old.items ++ text.string string.now) }
+    ensures err { OnErr result (out.new.items ≡ out.old.items) }
 {
+    let len = out.len();
     out.extend_from_slice(&(string.len() as u32).to_be_bytes())?;
-    out.extend_from_slice(string)?;
-    Ok(())
+    match out.extend_from_slice(string) {
+        Ok(()) => Ok(()),
+        Err(error) => {
+            out.truncate(len);
+            Err(error)
+        }
+    }
 }

@@ -22,9 +22,9 @@ use block_frame::Profile;
 use client_core::{Client, Outcomes};
 use container_view::{ViewFault, list_names};
 use database::Db;
-use fb_bytes::{Names, Ranges, Text, TryCopy};
+use fb_bytes::{Names, Ranges, Seq, Text, TryCopy};
 use fb_outside::{Vault, VaultFail};
-use mutations::History;
+use mutations::Entry;
 use std::alloc::{AllocError, Global};
 use std::marker::Model;
 use versioned_kv::Versions;
@@ -39,8 +39,8 @@ pub struct OpenFault<V> {
 /// What a world leaves.
 #[derive(Drop)]
 pub struct Parts<V> {
-    pub src: History,
-    pub dst: History,
+    pub src: Seq<Entry>,
+    pub dst: Seq<Entry>,
     /// What became of the clients' tries.
     pub outcomes: Outcomes,
     /// In the order of their numbers.
@@ -153,6 +153,8 @@ impl<V: Vault> World<V> {
         // The store's count of faults rose where the step was refused for it.
         ensures faults { Counts self.old.faults self.new.faults
             (IsErrOf result StepFault.VaultFault) }
+        // Without memory the state is as it was.
+        ensures starved { IsErrOf result StepFault.NoMemory → self.new.state ≡ self.old.state }
         ensures sound { Sound self.new.workload self.new.state }
     {
         let answer = match event {

@@ -1,12 +1,11 @@
 //! Chains of log files, from the names of a container's files alone.
 
-ghost use Rattle.std.specs.Prelude.{◌≡◌, ◌+◌, List, [], length, IfOk};
+ghost use Rattle.std.specs.Prelude.{◌≡◌, ◌+◌, IfOk};
 ghost use Rattle.container_view.specs.Names.{chain_named};
 
 use crate::logs::{best_at, best_logs};
-use fb_bytes::{Names, Text};
+use fb_bytes::{Names, Seq, Text, TryCopy};
 use std::alloc::{AllocError, Global};
-use std::marker::Model;
 
 /// A log file of a chain, and the versions that it gives: from `from` on and before `to`.
 #[derive(Debug, Drop)]
@@ -31,71 +30,19 @@ impl Link {
     }
 }
 
-/// The links of a chain, in the order of their versions.
-#[derive(Debug, Drop)]
-pub struct Links {
-    links: Vec<Link>,
-}
-
-impl Model for Links {
-    ghost use Rattle.std.specs.Prelude.{List};
-    ghost use Rattle.container_view.specs.declared.chaining.Link.{Link};
-
-    ghost Value = { List Link };
-
-    ghost view = { λ list. list.links.items };
-}
-
-impl Links {
-    /// The same links, with no copy.
-    pub fn from_vec(links: Vec<Link>) -> Self
-        ensures { result ≡ links.items }
-    {
-        Links { links }
-    }
-
-    /// The same links, with no copy.
-    pub fn into_vec(self) -> Vec<Link>
-        ensures { result.items ≡ self }
-    {
-        let Links { links } = self;
-        links
-    }
-
-    pub fn as_slice(&self) -> &[Link]
-        ensures { result.now ≡ self.now }
-    {
-        &self.links
-    }
-
-    pub fn len(&self) -> usize
-        ensures { result ≡ length self.now }
-    {
-        self.links.len()
-    }
-
-    /// An equal list with memory of its own.
-    pub fn copy(&self) -> Result<Self, AllocError>
-        ensures { IfOk result (λ links. links ≡ self.now) }
-    {
-        let mut links = Vec::with_capacity(*self.links.allocator(), self.links.len())?;
-        for link in &self.links {
-            let link = link.copy()?;
-            links.push(link)?;
-        }
-        Ok(Links { links })
+impl TryCopy for Link {
+    fn copy(&self) -> Result<Self, AllocError> {
+        Link::copy(self)
     }
 }
 
 /// The chain of log files from `from` until it reaches `to`, of a container with these names. There
 /// is none where no log file has some version between.
-pub fn chain(alloc: Global, names: &Names, from: u64, to: u64) -> Result<Option<Links>, AllocError>
+pub fn chain(alloc: Global, names: &Names, from: u64, to: u64) -> Result<Option<Seq<Link>>, AllocError>
     ensures { IfOk result (λ links. links ≡ chain_named names.now from to) }
 {
     if to == 0 {
-        return Ok(Some(Links {
-            links: Vec::new(alloc),
-        }));
+        return Ok(Some(Seq::new(alloc)));
     }
     chain_past(alloc, names, from, to - 1)
 }
@@ -106,7 +53,7 @@ pub fn chain_past(
     names: &Names,
     from: u64,
     last: u64,
-) -> Result<Option<Links>, AllocError>
+) -> Result<Option<Seq<Link>>, AllocError>
     ensures { IfOk result (λ links. links ≡ chain_named names.now from (last + 1)) }
 {
     let logs = best_logs(alloc, names.as_slice())?;
@@ -124,5 +71,5 @@ pub fn chain_past(
         })?;
         version = end;
     }
-    Ok(Some(Links { links }))
+    Ok(Some(Seq::from_vec(links)))
 }

@@ -10,7 +10,7 @@ mod restoring;
 mod versions;
 mod view;
 
-pub use chaining::{Link, Links, chain, chain_past};
+pub use chaining::{Link, chain, chain_past};
 pub use laws::{
     bounds_law, chain_law, change_law, chosen_law, container_law, contents_law, file_law,
     given_law, growth_law, honest_store_law, life_law, names_law, property_law, reach_law,

@@ -14,10 +14,10 @@ ghost use Rattle.fb_outside.specs.declared.File.{File};
 use crate::chaining::chain_past;
 use crate::listing::{in_order, is_listed};
 use crate::{
-    Bounds, FileFault, Links, ViewFault, get_property, list_names, manifest_for, restorable,
+    Bounds, FileFault, Link, ViewFault, get_property, list_names, manifest_for, restorable,
     whole_name,
 };
-use fb_bytes::{Blob, Names, Text};
+use fb_bytes::{Blob, Names, Seq, Text};
 use fb_outside::Vault;
 use file_names::parse;
 use manifests::{Manifest, ManifestFault};
@@ -29,7 +29,7 @@ use std::alloc::{AllocError, Global};
 pub struct RestoreSet {
     pub manifest: Manifest,
     pub ranges: Names,
-    pub links: Links,
+    pub links: Seq<Link>,
 }
 
 /// The bytes of a file of a container, which is missing where it isn't there.
@@ -194,7 +194,7 @@ fn set_with(
     }
     let links = match chain_past(alloc, names, manifest.begin, version)? {
         Some(links) => links,
-        None => Links::from_vec(Vec::new(alloc)),
+        None => Seq::from_vec(Vec::new(alloc)),
     };
     let ranges = manifest.files.copy()?;
     Ok(RestoreSet {

@@ -13,8 +13,8 @@ use crate::logging::logged;
 use crate::writes::{put_entry, version_taken};
 use crate::{CommitFault, JobLog, SystemFault};
 use block_frame::Profile;
-use fb_bytes::{KeyRange, Pair, Pairs, Ranges};
-use mutations::{Batches, Entry, History, LogChunk, TxOps, Who, fault_of};
+use fb_bytes::{KeyRange, Pair, Pairs, Ranges, Seq};
+use mutations::{Batch, Entry, LogChunk, TxOps, Who, fault_of};
 use std::alloc::{AllocError, Global};
 use std::marker::Model;
 use versioned_kv::{Store, Versions};
@@ -39,7 +39,7 @@ pub struct Committed {
 pub struct Db {
     alloc: Global,
     profile: Profile,
-    history: History,
+    history: Seq<Entry>,
     store: Store,
     logs: Vec<JobLog>,
 }
@@ -64,7 +64,7 @@ impl Db {
         Db {
             alloc,
             profile,
-            history: History::new(alloc),
+            history: Seq::new(alloc),
             store: Store::new(alloc, profile.value),
             logs: Vec::new(alloc),
         }
@@ -78,14 +78,14 @@ impl Db {
     }
 
     /// What was committed, oldest first. It takes no memory.
-    pub fn history(&self) -> &History
+    pub fn history(&self) -> &Seq<Entry>
         ensures { result.now ≡ self.now.history }
     {
         &self.history
     }
 
     /// What was committed, with no copy.
-    pub fn into_history(self) -> History
+    pub fn into_history(self) -> Seq<Entry>
         ensures { result ≡ self.history }
     {
         let Db {
@@ -202,7 +202,7 @@ impl Db {
     {
         let batches = match log_of(&self.logs, job) {
             Some(log) => logged(self.alloc, self.history.as_slice(), &log.ranges, begin, end)?,
-            None => Batches::new(self.alloc),
+            None => Seq::new(self.alloc),
         };
         Ok(LogChunk {
             begin,

@@ -4,8 +4,8 @@ ghost use Rattle.std.specs.Prelude.{◌≡◌, ◌++◌, [], IfOk, OnOk};
 ghost use Rattle.mutations.specs.Clipping.{all_clipped};
 ghost use Rattle.mutations.specs.Histories.{logged, with_batch};
 
-use fb_bytes::Ranges;
-use mutations::{Batch, Batches, Entry, Mutation, Muts, clip};
+use fb_bytes::{Ranges, Seq};
+use mutations::{Batch, Entry, Mutation, clip};
 use std::alloc::{AllocError, Global};
 
 /// What a job with these ranges logs from the version `begin` on and before `end`.
@@ -15,10 +15,10 @@ pub fn logged(
     ranges: &Ranges,
     begin: u64,
     end: u64,
-) -> Result<Batches, AllocError>
+) -> Result<Seq<Batch>, AllocError>
     ensures { IfOk result (λ batches. batches ≡ logged history.now ranges.now begin end) }
 {
-    let mut batches = Batches::new(alloc);
+    let mut batches = Seq::new(alloc);
     for entry in history {
         if begin <= entry.version && entry.version < end {
             add_batch(alloc, &mut batches, entry, ranges)?;
@@ -30,7 +30,7 @@ pub fn logged(
 /// Adds the batch of an entry, unless the ranges leave nothing of it.
 fn add_batch(
     alloc: Global,
-    batches: &mut Batches,
+    batches: &mut Seq<Batch>,
     entry: &Entry,
     ranges: &Ranges,
 ) -> Result<(), AllocError>
@@ -49,7 +49,7 @@ fn add_batch(
 }
 
 /// What is left of mutations in the ranges.
-fn clip_all(alloc: Global, muts: &[Mutation], ranges: &Ranges) -> Result<Muts, AllocError>
+fn clip_all(alloc: Global, muts: &[Mutation], ranges: &Ranges) -> Result<Seq<Mutation>, AllocError>
     ensures { IfOk result (λ left. left ≡ all_clipped ranges.now muts.now) }
 {
     let mut left = Vec::new(alloc);
@@ -57,5 +57,5 @@ fn clip_all(alloc: Global, muts: &[Mutation], ranges: &Ranges) -> Result<Muts, A
         let mut clipped = clip(alloc, mutation, ranges)?.into_vec();
         left.append(&mut clipped)?;
     }
-    Ok(Muts::from_vec(left))
+    Ok(Seq::from_vec(left))
 }

@@ -12,8 +12,8 @@ ghost use Rattle.database.specs.Commits.{version_taken, large_in, large_of};
 
 use crate::commit_fault::narrowed;
 use crate::{CommitFault, JobLog};
-use fb_bytes::Ranges;
-use mutations::{Entry, History, TxOp, TxOps, clipped_bytes};
+use fb_bytes::{Ranges, Seq};
+use mutations::{Entry, TxOp, TxOps, clipped_bytes};
 use std::alloc::AllocError;
 use std::slice::from_ref;
 use versioned_kv::{Store, Versions};
@@ -99,7 +99,7 @@ fn clipped_writes(ops: &[TxOp], ranges: &Ranges) -> Option<u128>
 
 /// Applies an entry to a store, and puts it at the end of the history that the store holds. Without
 /// memory the history is as it was, and the store holds it.
-pub fn put_entry(history: &mut History, store: &mut Store, entry: Entry) -> Result<(), AllocError>
+pub fn put_entry(history: &mut Seq<Entry>, store: &mut Store, entry: Entry) -> Result<(), AllocError>
     requires past { AllByRecursion (λ (earlier : Entry). earlier.version < entry.version)
         history.old }
     requires oldest { store.old.oldest < entry.version }

@@ -1,6 +1,5 @@
 pub mod Counting
 pub mod Turns
-pub mod Starved
 pub mod KeptElsewhere
 pub mod Histories
 pub mod Fronts

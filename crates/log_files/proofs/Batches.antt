@@ -18,8 +18,7 @@ use Rattle.log_files.specs.declared.fault.LogFault.{LogFault}
 use Rattle.log_files.specs.declared.fault.LogFault.TheVariants as faults
 use Rattle.log_files.specs.Reading.{◌>>=◌, OpenBatch, SoFar, with_batch, finished, some, continued, begun, continues, placed, version_in, part_in, taken, all_taken}
 use Rattle.log_files.specs.Grammar.{Row, row_key, rows_of, joined, AreOf, Spell}
-use Rattle.fb_bytes.proofs.Results.{bind_ok}
-use Rattle.block_frame.proofs.Steps.{ok_is, test_ok}
+use Rattle.fb_bytes.proofs.Results.{bind_ok, ok_is, test_ok}
 use Rattle.log_files.proofs.Blocks.{bare, bares, AreBytes}
 
 abbrev state : List Batch → ℕ → Option OpenBatch → SoFar

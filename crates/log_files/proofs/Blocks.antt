@@ -12,8 +12,7 @@ use Rattle.log_files.specs.declared.fault.LogFault.{LogFault}
 use Rattle.log_files.specs.declared.fault.LogFault.TheVariants as faults
 use Rattle.log_files.specs.Reading.{format, ◌>>=◌, found_or, string_or, record_at, records_at, padding_at, unless_padded, header_or, block_records, SoFar, taken, all_taken, blocks_from}
 use Rattle.log_files.specs.Grammar.{Row, row_text, rows_text, RowFits, IsLogBlock, LogBlocks, NoBlock, NextBlock}
-use Rattle.fb_bytes.proofs.Results.{bind_ok}
-use Rattle.block_frame.proofs.Steps.{found_or_ok, ok_is, test_ok}
+use Rattle.fb_bytes.proofs.Results.{bind_ok, found_or_ok, ok_is, test_ok}
 use Rattle.block_frame.proofs.Padding.{padding_found, padding_again, padding_over}
 use Rattle.log_files.proofs.Records.{over, one_more, no_key, no_value}
 use Rattle.log_files.proofs.Loops.{none_left, step_is}

@@ -10,8 +10,7 @@ use Rattle.log_files.specs.declared.fault.LogFault.TheVariants as faults
 use Rattle.log_files.specs.Reading.{Fails, ◌>>=◌, SoFar, nothing_yet, finished, blocks_from, read, ok_side}
 use Rattle.log_files.specs.Grammar.{LogFile}
 use Rattle.log_files.specs.Laws.{ReadIsLog, LogIsRead, OneLog}
-use Rattle.fb_bytes.proofs.Results.{bind_ok}
-use Rattle.block_frame.proofs.Steps.{ok_is, ok_from_side}
+use Rattle.fb_bytes.proofs.Results.{bind_ok, ok_is, ok_from_side}
 use Rattle.log_files.proofs.Blocks.{bares, blocks_found, blocks_again}
 use Rattle.log_files.proofs.Batches.{joins_found, spelled_again}
 

@@ -3,7 +3,7 @@ use Rattle.std.proofs.Common.{◌≡◌, ℕ, suc, ◌+◌, ◌-◌, ◌<◌, tr
 use Rattle.std.proofs.lemmas.List.{append-nil}
 use Rattle.fb_bytes.specs.Bytes.{Bytes}
 use Rattle.block_frame.specs.Text.{string_at, is_over}
-use Rattle.block_frame.proofs.Steps.{found_or_ok, fuel_is}
+use Rattle.fb_bytes.proofs.Results.{found_or_ok, fuel_is}
 use Rattle.block_frame.proofs.Strings.{string_size}
 use Rattle.log_files.specs.declared.record.Record.{Record}
 use Rattle.log_files.specs.declared.fault.LogFault.{LogFault}

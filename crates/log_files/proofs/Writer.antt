@@ -6,7 +6,7 @@ use Rattle.fb_bytes.specs.Bytes.{Bytes}
 use Rattle.block_frame.specs.Frames.{Frames, no_frames, framed, text}
 use Rattle.mutations.specs.declared.Batch.{Batch}
 use Rattle.mutations.specs.Spelling.{HasSpelling}
-use Rattle.block_frame.proofs.Steps.{fuel_is}
+use Rattle.fb_bytes.proofs.Results.{fuel_is}
 use Rattle.log_files.specs.Reading.{format}
 use Rattle.log_files.specs.Grammar.{Row, row_key, row_text, rows_of}
 use Rattle.log_files.specs.Writing.{pieces_with, pieces_of, with_rows, with_batches, log_text, AreLogged}

@@ -2,8 +2,8 @@
 
 ghost use Rattle.std.specs.Prelude.{◌+◌, ◌^◌, ◌<◌};
 
-use fb_bytes::Blob;
-use mutations::Batches;
+use fb_bytes::{Blob, Seq};
+use mutations::Batch;
 
 /// The batch that is being joined.
 #[derive(Debug, Drop)]
@@ -20,7 +20,7 @@ pub struct Joining {
 /// The batches so far.
 #[derive(Debug, Drop)]
 pub struct Batched {
-    pub batches: Batches,
+    pub batches: Seq<Batch>,
     /// The least version that may follow.
     pub low: u64,
     pub joining: Option<Joining>,

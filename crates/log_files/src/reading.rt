@@ -10,7 +10,8 @@ use crate::batched::Batched;
 use crate::fault::LogFault;
 use crate::joining::{all_taken, finished};
 use crate::record::block_records;
-use mutations::{Batches, LogChunk};
+use fb_bytes::Seq;
+use mutations::{Batch, LogChunk};
 use std::alloc::Global;
 
 /// What was logged from `begin` on and before `end`, of a log file in blocks of this size, or its
@@ -39,7 +40,7 @@ pub fn read_log(
     chunk_of(read, begin, end)
 }
 
-fn chunk_of(read: Result<Batches, LogFault>, begin: u64, end: u64) -> Result<LogChunk, LogFault>
+fn chunk_of(read: Result<Seq<Batch>, LogFault>, begin: u64, end: u64) -> Result<LogChunk, LogFault>
     ensures chunk { IfOk result (λ chunk. (read ≡ Ok chunk.batches) × (chunk.begin ≡ begin)
         × (chunk.end ≡ end)) }
     ensures fault { IfErr result (λ fault. read ≡ Err fault) }
@@ -61,7 +62,7 @@ fn batches_of(
     size: u32,
     begin: u64,
     end: u64,
-) -> Result<Batches, LogFault>
+) -> Result<Seq<Batch>, LogFault>
     requires { 0 < size }
     ensures ok { IfOk result (λ batches. reading.read size begin end bytes.now ≡ Ok batches) }
     ensures err { IfErr result
@@ -84,7 +85,7 @@ fn blocks(alloc: Global, bytes: &[u8], size: u32, begin: u64, end: u64) -> Resul
         (reading.blocks_from (length bytes.now) size end 0 (reading.nothing_yet begin) bytes.now)) }
 {
     let mut batched = Batched {
-        batches: Batches::new(alloc),
+        batches: Seq::new(alloc),
         low: begin,
         joining: None,
     };

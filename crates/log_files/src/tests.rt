@@ -3,8 +3,8 @@ ghost use Rattle.log_files.specs.Writing.{AreLogged};
 
 use super::*;
 use block_frame::Profile;
-use fb_bytes::Blob;
-use mutations::{Batch, Batches, LogChunk, Mutation, Muts, WireFault};
+use fb_bytes::{Blob, Seq};
+use mutations::{Batch, LogChunk, Mutation, WireFault};
 use std::alloc::{AllocError, Global};
 use std::test::Fail;
 
@@ -21,12 +21,12 @@ fn one_set(alloc: Global, value: &[u8]) -> Result<LogChunk, AllocError>
     ensures end { IfOk result (λ chunk. chunk.end ≡ 21) }
     ensures logged { IfOk result (λ chunk. AreLogged 10 21 chunk.batches) }
 {
-    let mut muts = Muts::new(alloc);
+    let mut muts = Seq::new(alloc);
     muts.push(Mutation::Set {
         key: Blob::from_slice(alloc, b"a")?,
         value: Blob::from_slice(alloc, value)?,
     })?;
-    let mut batches = Batches::new(alloc);
+    let mut batches = Seq::new(alloc);
     batches.push(Batch { version: 20, muts })?;
     Ok(LogChunk {
         begin: 10,
@@ -64,7 +64,7 @@ fn empty_log(rt: HostRuntime) -> Result<(), Fail> {
     let chunk = LogChunk {
         begin: 10,
         end: 21,
-        batches: Batches::new(alloc),
+        batches: Seq::new(alloc),
     };
     let text = write_log::<256>(alloc, &chunk)?;
     assert!(rt; text.as_slice().is_empty());

@@ -7,7 +7,8 @@ ghost use Rattle.log_keys.specs.Table.{Whole, IsRead, goes_on, joined, joined_on
 
 use crate::row::Row;
 use crate::whole::Whole;
-use mutations::{Batch, Batches, WireFault, decode_batch};
+use fb_bytes::Seq;
+use mutations::{Batch, WireFault, decode_batch};
 use std::alloc::{AllocError, Global};
 
 /// The parts of each job and version joined.
@@ -74,11 +75,11 @@ fn with_piece(whole: Whole, row: &Row) -> Result<Whole, AllocError>
 }
 
 /// Reads what was joined.
-pub fn batches_of(alloc: Global, wholes: &[Whole]) -> Result<Batches, AllocError>
+pub fn batches_of(alloc: Global, wholes: &[Whole]) -> Result<Seq<Batch>, AllocError>
     requires { All (λ whole. IsRead whole.bytes) wholes.now }
     ensures { IfOk result (λ batches. batches ≡ map batch_in wholes.now) }
 {
-    let mut batches = Batches::new(alloc);
+    let mut batches = Seq::new(alloc);
     for whole in wholes {
         let batch = read(alloc, whole)?;
         batches.push(batch)?;

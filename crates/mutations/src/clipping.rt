@@ -4,8 +4,8 @@ ghost use Rattle.fb_bytes.specs.Keys.{AreSeparate, is_passed};
 ghost use Rattle.mutations.specs.Effects as effects;
 ghost use Rattle.mutations.specs.Clipping.{clear_cut, clipped, begins_before};
 
-use crate::{Mutation, Muts};
-use fb_bytes::{Blob, KeyRange, Ranges, is_below};
+use crate::Mutation;
+use fb_bytes::{Blob, KeyRange, Ranges, Seq, is_below};
 use std::alloc::{AllocError, Global};
 
 pub fn later<'a>(a: &'a Blob, b: &'a Blob) -> &'a Blob
@@ -48,11 +48,11 @@ fn clip_clear(
     begin: &Blob,
     end: &Blob,
     ranges: &[KeyRange],
-) -> Result<Muts, AllocError>
+) -> Result<Seq<Mutation>, AllocError>
     requires { AreSeparate ranges.now }
     ensures { IfOk result (λ muts. muts ≡ clear_cut begin.now end.now ranges.now) }
 {
-    let mut muts = Muts::new(alloc);
+    let mut muts = Seq::new(alloc);
     for range in met(begin, end, ranges) {
         let begin = later(begin, &range.begin);
         let end = earlier(end, &range.end);
@@ -96,12 +96,12 @@ fn begun_before(key: &[u8], ranges: &[KeyRange]) -> usize
 }
 
 /// What is left of a mutation in the ranges.
-pub fn clip(alloc: Global, mutation: &Mutation, ranges: &Ranges) -> Result<Muts, AllocError>
+pub fn clip(alloc: Global, mutation: &Mutation, ranges: &Ranges) -> Result<Seq<Mutation>, AllocError>
     ensures { IfOk result (λ muts. muts ≡ clipped ranges.now mutation.now) }
 {
     match mutation {
         Mutation::Set { key, .. } | Mutation::Atomic { key, .. } => {
-            let mut muts = Muts::new(alloc);
+            let mut muts = Seq::new(alloc);
             if ranges.contains(key.as_slice()) {
                 muts.push(mutation.copy()?)?;
             }

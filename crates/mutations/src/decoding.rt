@@ -5,9 +5,9 @@ ghost use Rattle.mutations.specs.Reading.{Gives, mutation_of, mutation_at, mutat
 
 use crate::encoding::PROTOCOL;
 use crate::wire::{parts_of, u32_of, u64_of};
-use crate::{Mutation, Muts, WireFault};
+use crate::{Mutation, WireFault};
 use atomic_ops::Op;
-use fb_bytes::{Blob, is_below};
+use fb_bytes::{Blob, Seq, is_below};
 use std::alloc::Global;
 
 /// The mutation of a code and two strings, which stands at a place of the batch.
@@ -60,11 +60,11 @@ fn read_mutation(alloc: Global, at: u64, bytes: &[u8]) -> Result<(Mutation, &[u8
 }
 
 /// The mutations that are the last bytes of a batch of `total` bytes.
-fn read_mutations(alloc: Global, total: usize, bytes: &[u8]) -> Result<Muts, WireFault>
+fn read_mutations(alloc: Global, total: usize, bytes: &[u8]) -> Result<Seq<Mutation>, WireFault>
     requires { length bytes.now ≤ total }
     ensures { Gives (λ muts. muts) result (mutations_at total total bytes.now) }
 {
-    let mut muts = Muts::new(alloc);
+    let mut muts = Seq::new(alloc);
     let mut rest = bytes;
     while !rest.is_empty() {
         let at = (total - rest.len()) as u64;
@@ -98,7 +98,7 @@ fn body_of(bytes: &[u8]) -> Result<&[u8], WireFault>
 }
 
 /// The mutations that the bytes of a batch spell, or the first fault.
-pub fn decode_batch(alloc: Global, bytes: &[u8]) -> Result<Muts, WireFault>
+pub fn decode_batch(alloc: Global, bytes: &[u8]) -> Result<Seq<Mutation>, WireFault>
     // What is read is spelled so.
     ensures found { IfOk result (λ muts. HasSpelling muts × (bytes.now ≡ batch_spelling muts)) }
     // What is spelled so is read, unless memory runs out.

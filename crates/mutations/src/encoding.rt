@@ -3,8 +3,8 @@ ghost use Rattle.mutations.specs.Spelling.{mutation_code, first_string, second_s
 
 use crate::counting::mutation_bytes;
 use crate::wire::{put_u32, put_u64};
-use crate::{Mutation, Muts};
-use fb_bytes::Blob;
+use crate::Mutation;
+use fb_bytes::{Blob, Seq};
 use std::alloc::{AllocError, Global};
 
 /// The number that each batch begins with.
@@ -49,7 +49,7 @@ fn put_mutation(batch: &mut Blob, mutation: &Mutation) -> Result<(), AllocError>
 }
 
 /// The bytes of a batch of these mutations.
-pub fn encode_batch(alloc: Global, muts: &Muts) -> Result<Blob, AllocError>
+pub fn encode_batch(alloc: Global, muts: &Seq<Mutation>) -> Result<Blob, AllocError>
     requires { HasSpelling muts.now }
     ensures { IfOk result (λ batch. batch ≡ batch_spelling muts.now) }
 {

@@ -1,7 +1,7 @@
 ghost use Rattle.std.specs.Prelude.{◌≡◌, IfOk};
 
 use atomic_ops::Op;
-use fb_bytes::Blob;
+use fb_bytes::{Blob, TryCopy};
 use std::alloc::AllocError;
 
 /// One write to a database.
@@ -35,5 +35,11 @@ impl Mutation {
             },
         };
         Ok(mutation)
+    }
+}
+
+impl TryCopy for Mutation {
+    fn copy(&self) -> Result<Self, AllocError> {
+        Mutation::copy(self)
     }
 }

@@ -1,7 +1,7 @@
 ghost use Rattle.std.specs.Prelude.{◌≡◌, [], ◌∷◌, IfOk};
 
 use super::*;
-use fb_bytes::{Blob, KeyRange, RangeFault, Ranges, is_same};
+use fb_bytes::{Blob, KeyRange, RangeFault, Ranges, Seq, is_same};
 use std::alloc::{AllocError, Global};
 use std::test::Fail;
 
@@ -44,10 +44,10 @@ fn is_clear(mutation: &Mutation, wanted_begin: &[u8], wanted_end: &[u8]) -> bool
     }
 }
 
-fn one_set(alloc: Global) -> Result<Muts, AllocError>
+fn one_set(alloc: Global) -> Result<Seq<Mutation>, AllocError>
     ensures { IfOk result (λ muts. muts ≡ Mutation.Set (97 ∷ []) (49 ∷ []) ∷ []) }
 {
-    let mut muts = Muts::new(alloc);
+    let mut muts = Seq::new(alloc);
     muts.push(set(alloc, b"a", b"1")?)?;
     Ok(muts)
 }
@@ -142,8 +142,8 @@ fn touched_ranges(rt: HostRuntime) -> Result<(), Fail> {
     Ok(())
 }
 
-fn one_entry(alloc: Global) -> Result<History, AllocError> {
-    let mut history = History::new(alloc);
+fn one_entry(alloc: Global) -> Result<Seq<Entry>, AllocError> {
+    let mut history = Seq::new(alloc);
     history.push(Entry {
         version: 20,
         who: Who::Load { job: 1 },
@@ -153,7 +153,7 @@ fn one_entry(alloc: Global) -> Result<History, AllocError> {
 }
 
 fn one_batch(alloc: Global) -> Result<LogChunk, AllocError> {
-    let mut batches = Batches::new(alloc);
+    let mut batches = Seq::new(alloc);
     batches.push(Batch {
         version: 20,
         muts: one_set(alloc)?,
@@ -190,8 +190,8 @@ fn crosses<T: Send + Sync>() {}
 /// Threads may hand these on and share them.
 #[test]
 fn types_cross_threads() {
-    crosses::<Muts>();
-    crosses::<History>();
+    crosses::<Seq<Mutation>>();
+    crosses::<Seq<Entry>>();
     crosses::<LogChunk>();
     crosses::<TxOps>();
     crosses::<WireFault>();

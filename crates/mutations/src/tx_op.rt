@@ -1,7 +1,7 @@
 ghost use Rattle.std.specs.Prelude.{◌≡◌, ◌≢◌, ◌↔◌, List, [], ◌∷◌, ◌++◌, length, IsTrue, IfOk, OnOk, OnErr};
 
-use crate::{Mutation, Muts};
-use fb_bytes::{Blob, KeyRange, TryCopy};
+use crate::Mutation;
+use fb_bytes::{Blob, KeyRange, Seq, TryCopy};
 use std::alloc::{AllocError, Global};
 use std::marker::Model;
 
@@ -141,7 +141,7 @@ impl TxOps {
     }
 
     /// The writes, in order, with memory of their own.
-    pub fn writes(&self, alloc: Global) -> Result<Muts, AllocError>
+    pub fn writes(&self, alloc: Global) -> Result<Seq<Mutation>, AllocError>
         ensures { IfOk result (λ muts. muts ≡ writes_of self.now) }
     {
         let mut writes = Vec::with_capacity(alloc, self.ops.len())?;
@@ -152,7 +152,7 @@ impl TxOps {
             }
         }
         writes.shrink_to_fit();
-        Ok(Muts::from_vec(writes))
+        Ok(Seq::from_vec(writes))
     }
 }
 

@@ -11,8 +11,7 @@ use Rattle.range_files.specs.declared.fault.BlockFault.{BlockFault}
 use Rattle.range_files.specs.declared.fault.BlockFault.TheVariants.{Short, Format, Padding, Order}
 use Rattle.range_files.specs.Grammar.{pairs_text, end_text, block_text, LengthsFit, IsOrdered, StartsAt, IsBlockAt}
 use Rattle.range_files.specs.Reading.{◌>>=◌, found_or, unless, string_or, Items, items_at, place_after, padding_fault, fault_at, disorder, structure_of, block_from, block_of}
-use Rattle.fb_bytes.proofs.Results.{bind_ok}
-use Rattle.block_frame.proofs.Steps.{found_or_ok, test_ok, ok_is}
+use Rattle.fb_bytes.proofs.Results.{bind_ok, found_or_ok, test_ok, ok_is}
 use Rattle.block_frame.proofs.Padding as padding
 use Rattle.block_frame.proofs.Padding.{padding_over}
 use Rattle.range_files.proofs.Steps.{unless_ok, string_or_found, string_or_again}

@@ -17,8 +17,7 @@ use Rattle.range_files.specs.Reading.{Fails, ◌>>=◌, block_of, last_of, all_b
 use Rattle.range_files.specs.Front.{before_of, all_pairs, first_begin, Grows}
 use Rattle.range_files.specs.declared.file.Front.{Front}
 use Rattle.range_files.specs.Laws.{ReadIsFile, FileIsRead, OneBody}
-use Rattle.fb_bytes.proofs.Results.{bind_ok}
-use Rattle.block_frame.proofs.Steps.{test_ok, ok_is, ok_from_side, fuel_is}
+use Rattle.fb_bytes.proofs.Results.{bind_ok, test_ok, ok_is, ok_from_side, fuel_is}
 use Rattle.fb_bytes.proofs.Order.{same_eq, same_itself}
 use Rattle.range_files.proofs.Order.{ordered_rising, rising_joined}
 use Rattle.range_files.proofs.Blocks.{block_found, block_again, block_text-append}

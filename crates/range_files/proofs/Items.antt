@@ -8,8 +8,7 @@ use Rattle.block_frame.proofs.Strings.{IsString, string_not_over, not_over_short
 use Rattle.range_files.specs.declared.fault.BlockFault.{BlockFault}
 use Rattle.range_files.specs.Grammar.{pair_text, pairs_text, end_text, padding_like, LengthsFit}
 use Rattle.range_files.specs.Reading.{◌>>=◌, Items, with_pair, string_or, items_at}
-use Rattle.fb_bytes.proofs.Results.{bind_ok}
-use Rattle.block_frame.proofs.Steps.{ok_is, fuel_is}
+use Rattle.fb_bytes.proofs.Results.{bind_ok, ok_is, fuel_is}
 use Rattle.block_frame.proofs.Strings.{string-length}
 use Rattle.range_files.proofs.Steps.{string_or_size, string_or_found, string_or_again}
 

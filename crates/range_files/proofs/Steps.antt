@@ -2,7 +2,7 @@
 use Rattle.std.proofs.Common.{◌≡◌, ℕ, ◌+◌, ◌-◌, ◌^◌, ◌<◌, ◌++◌, length, Option, Some, None, Result, Ok, refl, ap}
 use Rattle.fb_bytes.specs.Bytes.{Bytes, IsBytes}
 use Rattle.block_frame.specs.Text.{string, string_at}
-use Rattle.block_frame.proofs.Steps.{found_or_ok}
+use Rattle.fb_bytes.proofs.Results.{found_or_ok}
 use Rattle.block_frame.proofs.Strings.{IsString, string_found, string_again, string_size}
 use Rattle.range_files.specs.declared.fault.BlockFault.{BlockFault}
 use Rattle.range_files.specs.declared.fault.BlockFault.TheVariants.{Short}

@@ -9,8 +9,8 @@ use crate::restored::put_restored;
 use crate::words::put_last;
 use crate::{Report, RunReport};
 use client_core::Outcomes;
-use fb_bytes::Blob;
-use mutations::History;
+use fb_bytes::{Blob, Seq};
+use mutations::Entry;
 use std::alloc::{AllocError, Global};
 
 /// The bytes of a report. A brief one leaves out the clients' tries and the histories.
@@ -41,8 +41,8 @@ pub fn put_details(
     alloc: Global,
     out: &mut Blob,
     outcomes: &Outcomes,
-    src: &History,
-    dst: &History,
+    src: &Seq<Entry>,
+    dst: &Seq<Entry>,
 ) -> Result<(), AllocError>
     ensures { OnOk result (out.new ≡ out.old ++ details outcomes.now src.now dst.now) }
 {

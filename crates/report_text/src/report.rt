@@ -1,7 +1,7 @@
 use client_core::Outcomes;
 use cluster_core::{Answer, Jobs, StepFault};
 use fb_bytes::{Pairs, Seq};
-use mutations::History;
+use mutations::Entry;
 use workload_text::{CommandKind, ScheduleLine};
 
 /// An event of a schedule, and what it was answered.
@@ -20,8 +20,8 @@ pub struct RunReport {
     pub lines: Seq<EventLine>,
     /// In the order of the clients' numbers.
     pub outcomes: Outcomes,
-    pub src: History,
-    pub dst: History,
+    pub src: Seq<Entry>,
+    pub dst: Seq<Entry>,
     /// In the order of their numbers.
     pub jobs: Jobs,
     /// The newest version when the run ended.

@@ -10,7 +10,7 @@ use client_core::{Client, End, Outcomes};
 use cluster_core::{Answer, JobState, Refusal, StepFault};
 use database::{CommitFault, Db};
 use fb_bytes::{Blob, Seq, SharedSeq, Text};
-use mutations::{History, Mutation, TxOp, TxOps, Who};
+use mutations::{Entry, Mutation, TxOp, TxOps, Who};
 use std::alloc::{AllocError, Global};
 use std::test::Fail;
 use versioned_kv::Versions;
@@ -56,7 +56,7 @@ fn push_placed(
 struct Played {
     lines: Seq<EventLine>,
     outcomes: Outcomes,
-    src: History,
+    src: Seq<Entry>,
     end: u64,
 }
 
@@ -118,7 +118,7 @@ fn played_bytes(alloc: Global, played: &Played) -> Result<Blob, AllocError> {
         &mut out,
         &played.outcomes,
         &played.src,
-        &History::new(alloc),
+        &Seq::new(alloc),
     )?;
     put_job(&mut out, 1, &tag, JobState::Running)?;
     put_newest(&mut out, played.end)?;

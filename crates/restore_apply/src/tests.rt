@@ -1,7 +1,7 @@
 use crate::{LoadFault, Loaded, LoadedFile, LoadedLink, overlap, whole};
 use atomic_ops::Op;
 use fb_bytes::{Blob, Pair, Pairs, Seq, is_same};
-use mutations::{Batch, Batches, LogChunk, Mutation, Muts};
+use mutations::{Batch, LogChunk, Mutation};
 use range_files::RangeBody;
 use std::alloc::{AllocError, Global};
 use std::test::Fail;
@@ -48,18 +48,18 @@ fn append(alloc: Global, key: &[u8], param: &[u8]) -> Result<Mutation, AllocErro
 /// Adds a batch of one mutation.
 fn push(
     alloc: Global,
-    batches: &mut Batches,
+    batches: &mut Seq<Batch>,
     version: u64,
     mutation: Mutation,
 ) -> Result<(), AllocError> {
-    let mut muts = Muts::new(alloc);
+    let mut muts = Seq::new(alloc);
     muts.push(mutation)?;
     batches.push(Batch { version, muts })?;
     Ok(())
 }
 
 /// A link that gives the versions of a span.
-fn link(from: u64, to: u64, limit: usize, batches: Batches) -> LoadedLink {
+fn link(from: u64, to: u64, limit: usize, batches: Seq<Batch>) -> LoadedLink {
     let chunk = LogChunk {
         begin: from,
         end: to,
@@ -105,7 +105,7 @@ fn found<'a>(pairs: &'a [Pair], key: &[u8]) -> Option<&'a [u8]> {
 #[test]
 fn a_version_in_the_file_is_not_made_again(rt: HostRuntime) -> Result<(), Fail> {
     let alloc = rt.alloc();
-    let mut batches = Batches::new(alloc);
+    let mut batches = Seq::new(alloc);
     push(alloc, &mut batches, 10, append(alloc, b"k", b"2")?)?;
     push(alloc, &mut batches, 11, append(alloc, b"k", b"3")?)?;
     let mut loaded = empty(alloc);
@@ -124,7 +124,7 @@ fn a_version_in_the_file_is_not_made_again(rt: HostRuntime) -> Result<(), Fail> 
 #[test]
 fn versions_past_the_last_are_left_out(rt: HostRuntime) -> Result<(), Fail> {
     let alloc = rt.alloc();
-    let mut batches = Batches::new(alloc);
+    let mut batches = Seq::new(alloc);
     push(alloc, &mut batches, 20, set(alloc, b"k", b"2")?)?;
     push(alloc, &mut batches, 21, set(alloc, b"k", b"3")?)?;
     push(alloc, &mut batches, u64::MAX, set(alloc, b"k", b"4")?)?;
@@ -150,7 +150,7 @@ fn a_link_gives_its_own_versions(rt: HostRuntime) -> Result<(), Fail> {
         .files
         .push(file(alloc, 10, (b"a", b"z"), (b"k", b"1"))?)?;
     for (from, to) in [(0, 15), (15, 30)] {
-        let mut batches = Batches::new(alloc);
+        let mut batches = Seq::new(alloc);
         push(alloc, &mut batches, 14, append(alloc, b"k", b"4")?)?;
         push(alloc, &mut batches, 15, append(alloc, b"k", b"5")?)?;
         loaded.links.push(link(from, to, 1000, batches))?;
@@ -170,7 +170,7 @@ fn a_value_grows_to_the_limit_of_its_link(rt: HostRuntime) -> Result<(), Fail> {
         .files
         .push(file(alloc, 10, (b"a", b"z"), (b"k", b"ab"))?)?;
     for (from, to, limit) in [(0, 15, 3), (15, 30, 4)] {
-        let mut batches = Batches::new(alloc);
+        let mut batches = Seq::new(alloc);
         push(alloc, &mut batches, from + 12, append(alloc, b"k", b"cd")?)?;
         loaded.links.push(link(from, to, limit, batches))?;
     }
@@ -187,7 +187,7 @@ fn a_value_grows_to_the_limit_of_its_link(rt: HostRuntime) -> Result<(), Fail> {
 
 /// Two files, and a clear of a range in both at a version between theirs.
 fn cleared(alloc: Global) -> Result<Loaded, AllocError> {
-    let mut batches = Batches::new(alloc);
+    let mut batches = Seq::new(alloc);
     push(alloc, &mut batches, 15, clear(alloc, b"c", b"t")?)?;
     push(alloc, &mut batches, 25, set(alloc, b"zz", b"3")?)?;
     let mut loaded = empty(alloc);

@@ -12,7 +12,7 @@ ghost use Rattle.container_view.specs.declared.ViewFault.TheVariants as faults;
 ghost use Rattle.restore_read.specs.Reading as spec;
 
 use block_frame::Profile;
-use container_view::{FileFault, Link, Links, ViewFault, get_file};
+use container_view::{FileFault, Link, ViewFault, get_file};
 use fb_bytes::{Seq, Text};
 use fb_outside::Vault;
 use file_names::{Name, parse};
@@ -25,7 +25,7 @@ pub(crate) fn get_links<V: Vault>(
     alloc: Global,
     vault: &mut V,
     container: &Text,
-    links: &Links,
+    links: &Seq<Link>,
 ) -> Result<Seq<LoadedLink>, ViewFault>
     ensures ok { IfOk result (λ loaded. (files : List File) → V.files vault.old ≡ Some files
         → spec.each_or (spec.link_at (inside container.now files)) links.now ≡ Ok loaded) }

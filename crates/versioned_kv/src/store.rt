@@ -14,8 +14,8 @@ ghost use Rattle.versioned_kv.specs.Digits.{digits};
 use crate::keys::Keys;
 use crate::writes::write_all;
 use crate::{Page, Steps};
-use fb_bytes::KeyRange;
-use mutations::{Mutation, Muts};
+use fb_bytes::{KeyRange, Seq};
+use mutations::Mutation;
 use std::alloc::{AllocError, Global};
 use std::marker::{Brand, Model};
 use std::sync::ledger::{Blank, Ledger};
@@ -103,7 +103,7 @@ impl Store {
 
     /// Applies mutations at a version that is past the earlier ones. Without memory the store is as it
     /// was.
-    pub fn apply(&mut self, version: u64, mutations: &Muts) -> Result<(), AllocError>
+    pub fn apply(&mut self, version: u64, mutations: &Seq<Mutation>) -> Result<(), AllocError>
         requires { IsPast version self.old.versions }
         ensures ok { OnOk result ((entries : List Batch) → Holds self.old entries
             → Holds self.new (with_entry entries version mutations.now)) }

@@ -3,8 +3,8 @@ ghost use Rattle.versioned_kv.specs.Chains.{rows_of};
 
 use crate::{Steps, Store, Versions};
 use atomic_ops::Op;
-use fb_bytes::{Blob, KeyRange};
-use mutations::{Mutation, Muts};
+use fb_bytes::{Blob, KeyRange, Seq};
+use mutations::Mutation;
 use std::alloc::{AllocError, Global};
 use std::marker::Brand;
 use std::sync::ledger::{Blank, Ledger};
@@ -67,7 +67,7 @@ fn apply(store: &mut Store, version: u64, mutation: Mutation, alloc: Global) -> 
     if !store.is_past(version) {
         return Err("not past the newest version".into());
     }
-    let mut mutations = Muts::new(alloc);
+    let mut mutations = Seq::new(alloc);
     mutations.push(mutation)?;
     store.apply(version, &mutations)?;
     Ok(())
@@ -84,7 +84,7 @@ fn retract(store: &mut Store) -> Result<(), Fail> {
 /// `a` and `b` are set at 10, `b` is cleared at 20, and `a` appended to at 30.
 fn three_entries(alloc: Global) -> Result<Store, Fail> {
     let mut store = Store::new(alloc, 4);
-    let mut mutations = Muts::new(alloc);
+    let mut mutations = Seq::new(alloc);
     mutations.push(set(alloc, b"a", b"1")?)?;
     mutations.push(set(alloc, b"b", b"2")?)?;
     mutations.push(append(alloc, b"b", b"3")?)?;
@@ -165,7 +165,7 @@ pub fn read_of_a_thousand<'a, L: Ledger>(
 fn a_thousand_keys_with_three_versions(rt: HostRuntime) -> Result<(), Fail> {
     let mut store = Store::new(rt.alloc(), 4);
     for version in 1..4 {
-        let mut mutations = Muts::new(rt.alloc());
+        let mut mutations = Seq::new(rt.alloc());
         for number in 0..1000u64 {
             let key = number.to_be_bytes();
             mutations.push(set(rt.alloc(), &key, &[version as u8])?)?;

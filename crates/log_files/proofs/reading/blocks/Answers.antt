@@ -3,7 +3,7 @@ use Rattle.std.proofs.lemmas.Result.{err_from_is_err_and}
 use Rattle.log_files.specs.Reading as reading
 use Rattle.log_files.specs.Seen.{so_far}
 use Rattle.log_files.specs.declared.fault.LogFault.TheVariants.{NoMemory}
-use Rattle.block_frame.proofs.Steps.{fails_on}
+use Rattle.fb_bytes.proofs.Results.{fails_on}
 use Rattle.block_frame.proofs.Pieces.{piece_is, rest_is}
 use Rattle.log_files.proofs.Loops.{blocks_end, blocks_more, blocks_bad, blocks_untaken, some_left, nothing_left}
 use Rattle.log_files.proofs.reading.blocks.Goals as goal

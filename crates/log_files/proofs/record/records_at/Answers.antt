@@ -1,7 +1,7 @@
 use Rattle.std.proofs.Common.{arith, sym, ◌∙◌}
 use Rattle.std.proofs.lemmas.Result.{err_from_is_err_and}
 use Rattle.log_files.specs.declared.fault.LogFault.TheVariants.{NoMemory}
-use Rattle.block_frame.proofs.Steps.{fails_on}
+use Rattle.fb_bytes.proofs.Results.{fails_on}
 use Rattle.log_files.proofs.Records.{rows_begin, rows_end, rows_more, rows_no_key, rows_no_value}
 use Rattle.log_files.proofs.record.records_at.Goals as goal
 

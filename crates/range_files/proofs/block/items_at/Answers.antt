@@ -1,7 +1,7 @@
 use Rattle.std.proofs.Common.{arith, sym, ◌∙◌}
 use Rattle.std.proofs.lemmas.Result.{err_from_is_err_and}
 use Rattle.range_files.specs.declared.fault.BlockFault.TheVariants.{NoMemory}
-use Rattle.block_frame.proofs.Steps.{fails_on}
+use Rattle.fb_bytes.proofs.Results.{fails_on}
 use Rattle.range_files.proofs.Steps.{string_or_size}
 use Rattle.range_files.proofs.Items.{items_begin, items_alone, items_last, items_more, items_no_key, items_no_value}
 use Rattle.range_files.proofs.block.items_at.Goals as goal

@@ -3,7 +3,7 @@ use Rattle.std.proofs.lemmas.Result.{err_from_is_err_and, IfOk-weaker, IfErr-wea
 use Rattle.range_files.specs.Grammar.{format}
 use Rattle.range_files.specs.Reading as reading
 use Rattle.range_files.specs.declared.fault.BlockFault.TheVariants.{NoMemory}
-use Rattle.block_frame.proofs.Steps.{fails_on}
+use Rattle.fb_bytes.proofs.Results.{fails_on}
 use Rattle.block_frame.proofs.Pieces.{piece_is, rest_is}
 use Rattle.range_files.proofs.Files.{file_begins, file_bad_block, file_bad_join, file_last, file_goes_on, finish_rising}
 use Rattle.range_files.proofs.file.read.Goals as goal
