@@ -30,8 +30,8 @@ use Rattle.cluster_core.specs.declared.event.Event.{Event}
 use Rattle.cluster_core.specs.declared.event.Event.TheVariants as events
 use Rattle.cluster_core.specs.declared.change.Change.{Change}
 use Rattle.cluster_core.specs.declared.change.Change.TheVariants as changes
-use Rattle.cluster_core.specs.Filed.{changed}
-use Rattle.cluster_core.specs.Plans.{files as files_put}
+use Rattle.cluster_core.specs.inner.Filed.{changed}
+use Rattle.cluster_core.specs.inner.Plans.{files as files_put}
 use Rattle.cluster_core.specs.declared.plan.Filing.{Filing}
 use Rattle.cluster_core.specs.declared.plan.Plan.TheVariants as plans
 use Rattle.cluster_core.specs.Jobs.{Job, is_on, with_log_of, logs_from, logs_of}
@@ -39,9 +39,10 @@ use Rattle.cluster_core.specs.State.{State, with_job, with_put}
 use Rattle.cluster_core.specs.Moves.{Luck, Fine, FailsOld, FailsNew, Starved, is_starved, Moved, moved}
 use Rattle.cluster_core.specs.Commands.{gone_on, done, puts, putting, new_job, open_over, with_abort, names_listed, operator_with}
 use Rattle.cluster_core.specs.Step.{step, operate, Step}
-use Rattle.cluster_core.specs.Plans.{aborts, IsPlan, IsLike, IsSafe}
+use Rattle.cluster_core.specs.inner.Plans.{aborts, IsPlan, IsLike, IsSafe}
 use Rattle.cluster_core.specs.Sound.{Sound}
-use Rattle.cluster_core.specs.World.{Seen, Desk, CommitSteps, state_of, IsWorld, logs_more, logs_less, IsListed, IsFirstName}
+use Rattle.cluster_core.specs.World.{Seen}
+use Rattle.cluster_core.specs.inner.World.{Desk, CommitSteps, state_of, IsWorld, logs_more, logs_less, IsListed, IsFirstName}
 use Rattle.cluster_core.proofs.Entries.{append_nil, All-weaker}
 use Rattle.cluster_core.proofs.Opens.{past_end}
 use Rattle.cluster_core.proofs.Relied.{known}

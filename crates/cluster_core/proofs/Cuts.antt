@@ -25,7 +25,7 @@ use Rattle.database.specs.Logs.{log_of}
 use Rattle.database.specs.Commits.{most_version}
 use Rattle.backup_core.specs.Hand.{BackupJob, text_of}
 use Rattle.cluster_core.specs.declared.change.Change.TheVariants as changes
-use Rattle.cluster_core.specs.Plans.{files}
+use Rattle.cluster_core.specs.inner.Plans.{files}
 use Rattle.cluster_core.specs.declared.plan.Filing.{Filing}
 use Rattle.cluster_core.specs.declared.plan.Plan.TheVariants.{Put}
 use Rattle.cluster_core.specs.declared.refusal.Refusal.TheVariants.{NothingNew, Untiled}
@@ -34,7 +34,7 @@ use Rattle.cluster_core.specs.State.{State, history_on}
 use Rattle.cluster_core.specs.declared.event.StepFault.TheVariants.{NoMemory}
 use Rattle.cluster_core.specs.Moves.{moved, Luck}
 use Rattle.cluster_core.specs.Commands.{refuses, cut_bytes, cut_name, cut_put, cut_log, seal_name, seal_fitting, snapshot_bytes, seal_tested, seal_job}
-use Rattle.cluster_core.specs.Plans.{planned, IsSafe}
+use Rattle.cluster_core.specs.inner.Plans.{planned, IsSafe}
 use Rattle.cluster_core.specs.Sound.{IsNoted, Sound}
 use Rattle.cluster_core.proofs.Entries.{All-weaker}
 use Rattle.cluster_core.proofs.Files.{cut_writable}

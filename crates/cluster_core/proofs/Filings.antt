@@ -6,7 +6,7 @@ use Rattle.backup_core.proofs.Noting.{undo_law}
 use Rattle.cluster_core.specs.declared.change.Change.{Change}
 use Rattle.cluster_core.specs.declared.change.Change.TheVariants.{Dump, Cut, Seal}
 use Rattle.cluster_core.specs.Jobs.{Job}
-use Rattle.cluster_core.specs.Filed.{changed, ahead, settled, taken_back, IsAhead}
+use Rattle.cluster_core.specs.inner.Filed.{changed, ahead, settled, taken_back, IsAhead}
 
 whole : (change : Change) (job : Job) → settled change (ahead change job) ≡ changed change job
 whole (Dump piece now file) job = refl

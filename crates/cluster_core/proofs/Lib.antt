@@ -22,4 +22,4 @@ mod Planned
 mod Cuts
 pub mod LeastKeys
 mod Filings
-mod Starved
+pub mod Footprints

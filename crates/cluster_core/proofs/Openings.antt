@@ -6,7 +6,7 @@ use Rattle.workload_text.specs.declared.ClientScript.{ClientScript}
 use Rattle.workload_text.specs.declared.Workload.{Workload}
 use Rattle.workload_text.specs.declared.Side.{Side}
 use Rattle.workload_text.specs.declared.Side.TheVariants.{Src, Dst}
-use Rattle.workload_text.specs.Scripts.{are_numbered}
+use Rattle.workload_text.specs.inner.Scripts.{are_numbered}
 use Rattle.client_core.specs.Clients.{ClientState, new_client}
 use Rattle.client_core.specs.Legal.{entries_by}
 use Rattle.database.specs.Dumps.{AreWithin}

@@ -21,14 +21,14 @@ use Rattle.snapshot_plan.specs.Pieces.{outside, overlap}
 use Rattle.backup_core.specs.Hand.{BackupJob, range_name, text_of}
 use Rattle.cluster_core.specs.declared.change.Change.{Change}
 use Rattle.cluster_core.specs.declared.change.Change.TheVariants as changes
-use Rattle.cluster_core.specs.Filed.{dump_change}
+use Rattle.cluster_core.specs.inner.Filed.{dump_change}
 use Rattle.cluster_core.specs.declared.plan.Filing.{Filing}
 use Rattle.cluster_core.specs.declared.plan.Plan.TheVariants.{Put}
 use Rattle.cluster_core.specs.declared.plan.Running.TheVariants.{At}
 use Rattle.cluster_core.specs.Jobs.{Job, Found, newest}
 use Rattle.cluster_core.specs.Moves.{Luck}
 use Rattle.cluster_core.specs.Commands.{piece_bytes, dump_bytes, dump_name, dump_put, dump_tested, dump_piece}
-use Rattle.cluster_core.specs.Plans.{files, planned, IsPlanAt, IsSafe, IsRunning}
+use Rattle.cluster_core.specs.inner.Plans.{files, planned, IsPlanAt, IsSafe, IsRunning}
 use Rattle.cluster_core.specs.State.{State, history_on}
 use Rattle.cluster_core.specs.Sound.{Sound}
 use Rattle.cluster_core.specs.World.{Seen}

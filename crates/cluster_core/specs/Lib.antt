@@ -3,10 +3,10 @@ pub mod State
 pub mod Moves
 pub mod Commands
 pub mod Step
-pub mod Plans
 pub mod Sound
+pub mod Footprints
 pub mod Elsewhere
 pub mod Laws
 pub mod World
 pub mod LeastKeys
-pub mod Filed
+pub mod inner

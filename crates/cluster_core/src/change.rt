@@ -1,7 +1,7 @@
 //! How a job becomes another one by a file of it.
 
 ghost use Rattle.std.specs.Prelude.{◌≡◌, Some, slice_get, slice_set, IfOk, OnErr};
-ghost use Rattle.cluster_core.specs.Filed.{CanChange, IsAhead, settled, taken_back};
+ghost use Rattle.cluster_core.specs.inner.Filed.{CanChange, IsAhead, settled, taken_back};
 ghost use Rattle.cluster_core.specs.Jobs as spec;
 
 use crate::Job;

@@ -2,7 +2,7 @@
 
 ghost use Rattle.std.specs.Prelude.{◌≡◌, ℕ, map, length, option_map, IfOk, OnOk, OnErr};
 ghost use Rattle.backup_core.specs.Hand.{aborted_job};
-ghost use Rattle.cluster_core.specs.Filed.{CanChange, ahead, settled, taken_back};
+ghost use Rattle.cluster_core.specs.inner.Filed.{CanChange, ahead, settled, taken_back};
 ghost use Rattle.cluster_core.specs.Jobs as spec;
 
 use crate::JobState;

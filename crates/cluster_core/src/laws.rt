@@ -1,4 +1,5 @@
 ghost use Rattle.cluster_core.specs.Elsewhere.{ElsewhereLaw};
+ghost use Rattle.cluster_core.specs.Footprints.{FootprintLaw};
 ghost use Rattle.cluster_core.specs.LeastKeys.{LeastKeyLaw};
 ghost use Rattle.cluster_core.specs.Laws.{OpeningLaw, StepLaw, RunLaw, FaithfulLaw};
 
@@ -20,6 +21,11 @@ pub fn run_law()
 /// In a sound state each job's container is faithful.
 pub fn faithful_law()
     ensures { FaithfulLaw }
+{}
+
+/// What each step may touch, whatever it is answered.
+pub fn footprint_law()
+    ensures { FootprintLaw }
 {}
 
 /// No step changes a file outside the containers of the jobs.

@@ -4,7 +4,7 @@ ghost use Rattle.std.specs.Prelude.{◌≡◌, Ok, None, IfOk, OnErr};
 ghost use Rattle.database.specs.Logs.{log_of};
 ghost use Rattle.database.specs.Commits.{next_version};
 ghost use Rattle.workload_text.specs.declared.Side.TheVariants as sides;
-ghost use Rattle.cluster_core.specs.World as spec;
+ghost use Rattle.cluster_core.specs.inner.World as spec;
 
 use database::Db;
 use fb_bytes::Ranges;

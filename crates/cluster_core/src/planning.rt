@@ -11,12 +11,12 @@ ghost use Rattle.database.specs.Commits.{most_version};
 ghost use Rattle.backup_core.specs.Hand.{text_of, range_name, log_name, manifest_name};
 ghost use Rattle.cluster_core.specs.declared.change.Change.TheVariants as changes;
 ghost use Rattle.cluster_core.specs.declared.plan.Filing.{Filing};
-ghost use Rattle.cluster_core.specs.Filed as filed;
+ghost use Rattle.cluster_core.specs.inner.Filed as filed;
 ghost use Rattle.cluster_core.specs.Jobs as jobs;
 ghost use Rattle.cluster_core.specs.State.{history_on};
 ghost use Rattle.cluster_core.specs.Moves.{Luck};
 ghost use Rattle.cluster_core.specs.Commands as commands;
-ghost use Rattle.cluster_core.specs.Plans.{planned, IsPlan, IsPlanOf, IsPlanAt, IsSafe, IsRunning};
+ghost use Rattle.cluster_core.specs.inner.Plans.{planned, IsPlan, IsPlanOf, IsPlanAt, IsSafe, IsRunning};
 
 use crate::change::Change;
 use crate::job::{newest, started_in};

@@ -8,9 +8,10 @@ ghost use Rattle.cluster_core.specs.State.{State, opening};
 ghost use Rattle.cluster_core.specs.Moves.{Fine, moved};
 ghost use Rattle.cluster_core.specs.Commands.{gone_on};
 ghost use Rattle.cluster_core.specs.Step.{Step, begin, commit, step};
-ghost use Rattle.cluster_core.specs.Plans.{IsPlan, IsSafe};
+ghost use Rattle.cluster_core.specs.inner.Plans.{IsPlan, IsSafe};
+ghost use Rattle.cluster_core.specs.Footprints.{Footprint};
 ghost use Rattle.cluster_core.specs.Sound.{Sound};
-ghost use Rattle.cluster_core.specs.World.{CommitSteps, OperatorSteps, IsListed, IsFirstName};
+ghost use Rattle.cluster_core.specs.inner.World.{CommitSteps, OperatorSteps, IsListed, IsFirstName};
 
 use crate::change::{go_ahead, settle, take_back};
 use crate::clients::{begin_client, commit_client, new_clients};
@@ -68,7 +69,8 @@ pub struct World<V: Vault> {
 }
 
 impl<V: Vault> Model for World<V> {
-    ghost use Rattle.cluster_core.specs.World.{Seen, Desk, allowed_code, state_of, IsWorld};
+    ghost use Rattle.cluster_core.specs.World.{Seen};
+ghost use Rattle.cluster_core.specs.inner.World.{Desk, allowed_code, state_of, IsWorld};
     ghost use Rattle.std.specs.Coded.{codes};
 
     ghost Value = { Seen };
@@ -153,8 +155,8 @@ impl<V: Vault> World<V> {
         // The store's count of faults rose where the step was refused for it.
         ensures faults { Counts self.old.faults self.new.faults
             (IsErrOf result StepFault.VaultFault) }
-        // Without memory the state is as it was.
-        ensures starved { IsErrOf result StepFault.NoMemory → self.new.state ≡ self.old.state }
+        ensures footprint { Footprint self.old.workload.settings.pace self.old.state result
+            self.new.state }
         ensures sound { Sound self.new.workload self.new.state }
     {
         let answer = match event {

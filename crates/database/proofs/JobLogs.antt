@@ -5,7 +5,8 @@ use Rattle.std.specs.Option.{unwrap_or}
 use Rattle.std.proofs.lemmas.Bool.{ltb-true, ltb-false, lt-leb, le-leb}
 use Rattle.std.proofs.lemmas.Bool.Decides.{nat_tests}
 use Rattle.std.proofs.lemmas.List.Sums.{prefix_len-le-length}
-use Rattle.database.specs.Logs.{JobLog, AreInOrder, log_of, with_log, without_log, place_of}
+use Rattle.database.specs.Logs.{JobLog, log_of, with_log, without_log}
+use Rattle.database.specs.inner.Logs.{AreInOrder, place_of}
 
 -- ---- the place of one more
 

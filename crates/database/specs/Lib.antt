@@ -2,5 +2,5 @@ pub mod Faults
 pub mod Logs
 pub mod Commits
 pub mod Dumps
-pub mod Kept
 pub mod Laws
+pub mod inner

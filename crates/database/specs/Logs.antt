@@ -17,11 +17,6 @@ use Rattle.std.specs.Prelude.{
 use Rattle.std.specs.List.{AllByRecursion, filter, position_or_len}
 pub use Rattle.database.specs.declared.job_log.JobLog.{JobLog}
 
--- the jobs' numbers rise, so no job logs twice
-abbrev pub AreInOrder : List JobLog → Type 0
-AreInOrder [] = Unit {0}
-AreInOrder (log ∷ logs) = AllByRecursion (λ later. log.job < later.job) logs × AreInOrder logs
-
 -- the log of a job, where it logs
 abbrev pub log_of : List JobLog → ℕ → Option JobLog
 log_of [] job = None
@@ -36,7 +31,3 @@ with_log new (log ∷ logs) =
 -- the logs of the other jobs
 abbrev pub without_log : ℕ → List JobLog → List JobLog
 without_log job logs = filter (λ (log : JobLog). not (nat_eq log.job job)) logs
-
--- the place of the first log that isn't of a job with a lower number, or the end
-abbrev pub place_of : ℕ → List JobLog → ℕ
-place_of job logs = position_or_len (λ (log : JobLog). nat_le job log.job) logs

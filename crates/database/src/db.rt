@@ -49,7 +49,7 @@ impl Model for Db {
 
     ghost Value = { Database };
 
-    ghost use Rattle.database.specs.Kept.{IsKept};
+    ghost use Rattle.database.specs.inner.Kept.{IsKept};
 
     ghost view = { λ db. record { block = db.profile.block; history = db.history; logs = db.logs.items } };
 

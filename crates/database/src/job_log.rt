@@ -2,6 +2,7 @@ ghost use Rattle.std.specs.Prelude.{◌≡◌, ◌≤◌, length, position, nat_
 ghost use Rattle.std.specs.List.{filter};
 ghost use Rattle.std.specs.Option.{option_copied};
 ghost use Rattle.database.specs.Logs as spec;
+ghost use Rattle.database.specs.inner.Logs as inner;
 
 use fb_bytes::Ranges;
 use std::alloc::AllocError;
@@ -45,7 +46,7 @@ pub fn remove_log(logs: &mut Vec<JobLog>, job: u64)
 
 // The place of the first log that isn't of a job with a lower number.
 fn place_of(logs: &[JobLog], job: u64) -> usize
-    ensures { result ≡ spec.place_of job logs.now }
+    ensures { result ≡ inner.place_of job logs.now }
 {
     first_from(logs, job).unwrap_or(logs.len())
 }

@@ -4,7 +4,8 @@ use Rattle.std.specs.List.{prefix_len, AllByRecursion}
 use Rattle.std.specs.List.Sorted.{IsPartitionedBy, IsPartitionPoint}
 use Rattle.std.proofs.lemmas.Bool.{cond-true, cond-false}
 use Rattle.fb_bytes.specs.Bytes.{Bytes, is_below}
-use Rattle.fb_bytes.specs.Keys.{KeyRange, holds, in_ranges, is_passed, AreSeparate}
+use Rattle.fb_bytes.specs.Keys.{KeyRange, holds, in_ranges, AreSeparate}
+use Rattle.fb_bytes.specs.inner.Keys.{is_passed}
 use Rattle.fb_bytes.proofs.Order.{below_trans, below_not_back, not_both}
 use Rattle.fb_bytes.proofs.Unions.{not_back}
 use Rattle.fb_bytes.proofs.Separate.{before_rest}

@@ -24,10 +24,6 @@ use Rattle.fb_bytes.specs.Bytes.{Bytes, is_below}
 abbrev pub holds : KeyRange → Bytes → Bool
 holds range key = not (is_below key range.begin) && is_below key range.end
 
--- the key is at the end of the range or past it
-abbrev pub is_passed : Bytes → KeyRange → Bool
-is_passed key range = not (is_below key range.end)
-
 -- some key is in both ranges, where each has one
 abbrev pub overlaps : KeyRange → KeyRange → Bool
 overlaps a b = is_below a.begin b.end && is_below b.begin a.end

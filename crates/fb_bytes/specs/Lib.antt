@@ -1,5 +1,4 @@
 pub mod Bytes
-pub mod Held
 pub mod Limits
 pub mod Options
 pub mod Results
@@ -9,3 +8,4 @@ pub mod Blocks
 pub mod RangeFaults
 pub mod Joining
 pub mod Words
+pub mod inner

@@ -91,8 +91,7 @@ escape_at (x ∷ high ∷ low ∷ word) =
     if nat_eq x 120 then byte_of high low >>= (λ byte. Some (byte, 3)) else None
 escape_at word = None
 
--- the byte that the letter at the front spells, and how many bytes the letter takes behind its
--- first
+-- the byte that the letter at the front spells, and how many bytes it takes behind its first
 abbrev pub letter_at : Bytes → Option (ℕ × ℕ)
 letter_at [] = None
 letter_at (first ∷ word) =
@@ -110,8 +109,7 @@ next_letter at None rest = Err (Escape at)
 next_letter at (Some letter) rest = in_front letter.0 (rest letter.1)
 
 -- what the letters spell, or the first place where none begins; places count on from `at`, and the
--- first
--- `taken` bytes belong to the letter before
+-- first `taken` bytes belong to the letter before
 abbrev pub letters : ℕ → ℕ → Bytes → Result Bytes WordFault
 letters taken at [] = Ok []
 letters zero at (first ∷ word) =

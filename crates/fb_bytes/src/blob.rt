@@ -21,7 +21,7 @@ pub struct Blob {
 
 impl Model for Blob {
     ghost use Rattle.std.specs.Prelude.{List, ℕ};
-    ghost use Rattle.fb_bytes.specs.Held.{held_bytes, IsHeld};
+    ghost use Rattle.fb_bytes.specs.inner.Held.{held_bytes, IsHeld};
 
     ghost Value = { List ℕ };
 

@@ -1,7 +1,7 @@
 //! Where the bytes of a string stand.
 
 ghost use Rattle.std.specs.Prelude.{◌≡◌, ◌+◌, ◌≤◌, ◌++◌, length, IfOk};
-ghost use Rattle.fb_bytes.specs.Held.{held_bytes, IsHeld};
+ghost use Rattle.fb_bytes.specs.inner.Held.{held_bytes, IsHeld};
 
 use std::alloc::{AllocError, Global};
 use std::sync::Arc;

@@ -1,7 +1,8 @@
 ghost use Rattle.std.specs.List.{prefix_len};
 ghost use Rattle.std.specs.Prelude.{◌≡◌, ◌↔◌, List, [], length, position, IsTrue, None, IfOk, IsOkUnless, MatchOption};
 ghost use Rattle.fb_bytes.specs.Bytes.{Bytes};
-ghost use Rattle.fb_bytes.specs.Keys.{KeysTellRanges, AreRanges, AreSeparate, in_ranges, is_passed, is_backwards, is_past_user};
+ghost use Rattle.fb_bytes.specs.Keys.{KeysTellRanges, AreRanges, AreSeparate, in_ranges, is_backwards, is_past_user};
+ghost use Rattle.fb_bytes.specs.inner.Keys.{is_passed};
 ghost use Rattle.fb_bytes.specs.Joining as spec;
 ghost use Rattle.fb_bytes.specs.Options.{first_place};
 ghost use Rattle.fb_bytes.specs.RangeFaults.{range_fault};

@@ -3,5 +3,5 @@ pub mod Contents
 pub mod Faults
 pub mod Files
 pub mod Memory
-pub mod Parts
 pub mod Told
+pub mod inner

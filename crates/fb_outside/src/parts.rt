@@ -2,7 +2,7 @@
 
 ghost use Rattle.std.specs.Prelude.{◌≡◌};
 ghost use Rattle.std.specs.List.{list_all};
-ghost use Rattle.fb_outside.specs.Parts as parts;
+ghost use Rattle.fb_outside.specs.inner.Parts as parts;
 
 /// Whether the name is parts with slashes between, as each name of the store's own forms is.
 pub fn is_store_name(name: &[u8]) -> bool

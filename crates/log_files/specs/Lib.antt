@@ -1,5 +1,5 @@
 pub mod Reading
-pub mod Seen
 pub mod Grammar
 pub mod Laws
 pub mod Writing
+pub mod inner

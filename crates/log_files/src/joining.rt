@@ -2,7 +2,7 @@
 
 ghost use Rattle.std.specs.Prelude.{◌≡◌, ◌+◌, ◌^◌, ◌<◌, Ok, Some, length, IfOk, IfErr};
 ghost use Rattle.log_files.specs.Reading as reading;
-ghost use Rattle.log_files.specs.Seen.{so_far, joining_from};
+ghost use Rattle.log_files.specs.inner.Seen.{so_far, joining_from};
 
 use crate::batched::{Batched, Joining};
 use crate::fault::LogFault;

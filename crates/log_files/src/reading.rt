@@ -4,7 +4,7 @@ ghost use Rattle.std.specs.Prelude.{◌≡◌, ◌+◌, ◌<◌, ◌≤◌, Ok, 
 ghost use Rattle.mutations.specs.declared.Batch.{Batch};
 ghost use Rattle.log_files.specs.Grammar.{LogFile};
 ghost use Rattle.log_files.specs.Reading as reading;
-ghost use Rattle.log_files.specs.Seen.{so_far};
+ghost use Rattle.log_files.specs.inner.Seen.{so_far};
 
 use crate::batched::Batched;
 use crate::fault::LogFault;

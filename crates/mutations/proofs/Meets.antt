@@ -7,11 +7,13 @@ use Rattle.std.proofs.lemmas.List.{take_all, length-drop}
 use Rattle.std.proofs.lemmas.List.Sums.{prefix_len_is}
 use Rattle.fb_bytes.specs.Bytes.{Bytes, is_below}
 use Rattle.fb_bytes.specs.declared.KeyRange.{KeyRange}
-use Rattle.fb_bytes.specs.Keys.{is_passed, AreSeparate}
+use Rattle.fb_bytes.specs.Keys.{AreSeparate}
+use Rattle.fb_bytes.specs.inner.Keys.{is_passed}
 use Rattle.fb_bytes.proofs.Order.{below_trans, below_down, below_itself}
 use Rattle.mutations.specs.declared.mutation.Mutation.{Mutation}
 use Rattle.mutations.specs.Effects.{range_of, later, earlier}
-use Rattle.mutations.specs.Clipping.{cut_to, clear_cut, begins_before}
+use Rattle.mutations.specs.Clipping.{cut_to, clear_cut}
+use Rattle.mutations.specs.inner.Clipping.{begins_before}
 use Rattle.mutations.proofs.Basics.{not_both, not_true, not_false}
 use Rattle.mutations.proofs.Intersections.{later_below, below_earlier}
 

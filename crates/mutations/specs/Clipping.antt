@@ -1,7 +1,7 @@
 -- Mutations cut to the ranges of a job.
-use Rattle.std.specs.Prelude.{Bool, List, [], ◌∷◌, if◌then◌else◌}
+use Rattle.std.specs.Prelude.{List, [], ◌∷◌, if◌then◌else◌}
 use Rattle.std.specs.List.{flat_map}
-use Rattle.fb_bytes.specs.Bytes.{Bytes, is_below}
+use Rattle.fb_bytes.specs.Bytes.{Bytes}
 use Rattle.fb_bytes.specs.declared.KeyRange.{KeyRange}
 use Rattle.fb_bytes.specs.Keys.{in_ranges, is_backwards}
 use Rattle.mutations.specs.declared.mutation.Mutation.{Mutation}
@@ -33,7 +33,3 @@ clipped ranges (Atomic op key param) = kept_in ranges key (Atomic op key param)
 -- what is left of mutations, in their order
 abbrev pub all_clipped : List KeyRange → List Mutation → List Mutation
 all_clipped ranges muts = flat_map (clipped ranges) muts
-
--- the range begins before the key
-abbrev pub begins_before : Bytes → KeyRange → Bool
-begins_before key range = is_below range.begin key

@@ -7,3 +7,4 @@ pub mod Parts
 pub mod Reading
 pub mod Laws
 pub mod Transactions
+pub mod inner

@@ -1,8 +1,10 @@
 ghost use Rattle.std.specs.Prelude.{◌≡◌, ◌≤◌, length, IfOk};
 ghost use Rattle.std.specs.List.{prefix_len};
-ghost use Rattle.fb_bytes.specs.Keys.{AreSeparate, is_passed};
+ghost use Rattle.fb_bytes.specs.Keys.{AreSeparate};
+ghost use Rattle.fb_bytes.specs.inner.Keys.{is_passed};
 ghost use Rattle.mutations.specs.Effects as effects;
-ghost use Rattle.mutations.specs.Clipping.{clear_cut, clipped, begins_before};
+ghost use Rattle.mutations.specs.Clipping.{clear_cut, clipped};
+ghost use Rattle.mutations.specs.inner.Clipping.{begins_before};
 
 use crate::Mutation;
 use fb_bytes::{Blob, KeyRange, Ranges, Seq, is_below};

@@ -14,7 +14,7 @@ use Rattle.range_files.specs.declared.fault.BlockFault.{BlockFault}
 use Rattle.range_files.specs.declared.fault.BlockFault.TheVariants.{Join, NoMemory}
 use Rattle.range_files.specs.Grammar.{format, IsBlock, StartsAt, IsBlockAt, RangeFile, LastBlock, EarlierBlock}
 use Rattle.range_files.specs.Reading.{Fails, ◌>>=◌, block_of, last_of, all_but_last, link_of, begins_with, joins, last_body, after_block, blocks_from, read, ok_side}
-use Rattle.range_files.specs.Front.{before_of, all_pairs, first_begin, Grows}
+use Rattle.range_files.specs.inner.Front.{before_of, all_pairs, first_begin, Grows}
 use Rattle.range_files.specs.declared.file.Front.{Front}
 use Rattle.range_files.specs.Laws.{ReadIsFile, FileIsRead, OneBody}
 use Rattle.fb_bytes.proofs.Results.{bind_ok, test_ok, ok_is, ok_from_side, fuel_is}

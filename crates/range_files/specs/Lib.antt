@@ -2,5 +2,4 @@ pub mod Grammar
 pub mod Reading
 pub mod Writing
 pub mod Laws
-pub mod Seen
-pub mod Front
+pub mod inner

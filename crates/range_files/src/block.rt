@@ -6,7 +6,7 @@ ghost use Rattle.fb_bytes.specs.Pairs.{AreRising};
 ghost use Rattle.fb_bytes.specs.declared.Pair.{Pair};
 ghost use Rattle.range_files.specs.Grammar.{pairs_text, end_text, IsBlockAt};
 ghost use Rattle.range_files.specs.Reading as reading;
-ghost use Rattle.range_files.specs.Seen.{items_from};
+ghost use Rattle.range_files.specs.inner.Seen.{items_from};
 
 use crate::fault::BlockFault;
 use block_frame::{header_at, is_over, string_at, unpadded_at};

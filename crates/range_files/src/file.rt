@@ -6,7 +6,7 @@ ghost use Rattle.fb_bytes.specs.Pairs.{AreRising};
 ghost use Rattle.fb_bytes.specs.declared.Pair.{Pair};
 ghost use Rattle.range_files.specs.Grammar.{RangeFile};
 ghost use Rattle.range_files.specs.Reading as reading;
-ghost use Rattle.range_files.specs.Front.{before_of, all_pairs, first_begin, Grows};
+ghost use Rattle.range_files.specs.inner.Front.{before_of, all_pairs, first_begin, Grows};
 
 use crate::block::{Block, read_block};
 use crate::fault::BlockFault;

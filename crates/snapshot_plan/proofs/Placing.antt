@@ -1,11 +1,11 @@
 -- Where an element belongs in a list, and what a search by halving finds among pieces in order.
 use Rattle.std.proofs.Common.{◌≡◌, ℕ, zero, suc, ◌+◌, ◌≤◌, ◌<◌, Bool, true, false, not, List, [], ◌∷◌, length, get_or, map, subst, drop, drop-cons, add-one, refl, sym, ap, ◌∙◌, arith}
 use Rattle.std.specs.List.{insert, prefix_len}
-use Rattle.std.specs.List.Sorted.{IsPartitionedBy, IsPartitionPoint}
-use Rattle.std.proofs.lemmas.Bool.{cond-true, cond-false}
+use Rattle.std.specs.List.Sorted.{IsPartitionedBy}
 use Rattle.std.proofs.lemmas.List.Sums.{prefix_len-le-length}
 use Rattle.fb_bytes.specs.Bytes.{Bytes, is_below}
-use Rattle.fb_bytes.specs.Keys.{is_passed, is_backwards, AreSeparate}
+use Rattle.fb_bytes.specs.Keys.{is_backwards, AreSeparate}
+use Rattle.fb_bytes.specs.inner.Keys.{is_passed}
 use Rattle.fb_bytes.specs.declared.KeyRange.{KeyRange}
 use Rattle.fb_bytes.proofs.Order.{below_trans, below_up, below_down, not_both}
 use Rattle.snapshot_plan.specs.Noted.{Noted, pieces_of, placed, with_noted}

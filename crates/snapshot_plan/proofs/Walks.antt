@@ -5,11 +5,12 @@ use Rattle.std.specs.List.{prefix_len}
 use Rattle.std.proofs.lemmas.Bool.{cond-true, cond-false}
 use Rattle.fb_bytes.specs.Bytes.{Bytes, is_below}
 use Rattle.fb_bytes.specs.declared.KeyRange.{KeyRange}
-use Rattle.fb_bytes.specs.Keys.{holds, in_ranges, is_backwards, is_passed, overlaps, BeginPast, AreSeparate}
+use Rattle.fb_bytes.specs.Keys.{holds, in_ranges, is_backwards, overlaps, BeginPast, AreSeparate}
+use Rattle.fb_bytes.specs.inner.Keys.{is_passed}
 use Rattle.fb_bytes.proofs.Order.{below_trans, below_up, below_down, below_itself, below_not_back, not_both}
 use Rattle.snapshot_plan.specs.Noted.{Noted, pieces_of}
 use Rattle.snapshot_plan.specs.Pieces.{BeginFrom, ArePieces, covered_from, outside, later, overlap, if_below, or_else, gap_in}
-use Rattle.snapshot_plan.specs.Walks.{Reaches}
+use Rattle.snapshot_plan.specs.inner.Walks.{Reaches}
 use Rattle.snapshot_plan.proofs.Walking.{by, proper, at_most_trans, not_past, step_in, step_over, walk_on, walk_stays, before_all, later_first, separate_pieces}
 
 -- ---- a jump among ranges that are apart

@@ -1,5 +1,5 @@
 pub mod Pieces
 pub mod Noted
-pub mod Walks
 pub mod Laws
 pub mod Listing
+pub mod inner

@@ -3,11 +3,12 @@
 ghost use Rattle.std.specs.Prelude.{◌≡◌, ◌≤◌, false, Some, None, not, length, drop, option_map, IfOk, IfErr};
 ghost use Rattle.std.specs.List.{prefix_len};
 ghost use Rattle.fb_bytes.specs.Bytes.{is_below};
-ghost use Rattle.fb_bytes.specs.Keys.{holds, is_passed, is_backwards, AreSeparate};
+ghost use Rattle.fb_bytes.specs.Keys.{holds, is_backwards, AreSeparate};
+ghost use Rattle.fb_bytes.specs.inner.Keys.{is_passed};
 ghost use Rattle.snapshot_plan.specs.Pieces as spec;
 ghost use Rattle.snapshot_plan.specs.Pieces.{ArePieces};
 ghost use Rattle.snapshot_plan.specs.Noted.{pieces_of};
-ghost use Rattle.snapshot_plan.specs.Walks.{Reaches};
+ghost use Rattle.snapshot_plan.specs.inner.Walks.{Reaches};
 ghost use Rattle.std.specs.Prelude.{if◌then◌else◌};
 
 use crate::file_map::Noted;

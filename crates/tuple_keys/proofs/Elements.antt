@@ -13,7 +13,8 @@ use Rattle.tuple_keys.specs.Elements.{IsElement, AreElements}
 use Rattle.tuple_keys.specs.Spelling.{digits, complement, int_spelling, element_spelling, spelling}
 use Rattle.fb_bytes.specs.Results.{◌>>=◌}
 use Rattle.fb_bytes.proofs.Results.{bind_ok}
-use Rattle.tuple_keys.specs.Reading.{closed_at, text_of, value, turned, has_zero_in_front, int_at, coded_at, element_at, elements_at, reading}
+use Rattle.tuple_keys.specs.Reading.{closed_at, text_of, value, turned, has_zero_in_front, int_at, coded_at, elements_at, reading}
+use Rattle.tuple_keys.specs.inner.Reading.{element_at}
 use Rattle.tuple_keys.proofs.Values.{digits_are, complement-length, complement-complement}
 use Rattle.tuple_keys.proofs.Parts.{ok_is, closed_takes, closed_again, has_mark, text_ok, int_takes, int_again, IsBytes-rest}
 

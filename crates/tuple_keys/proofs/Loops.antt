@@ -11,10 +11,11 @@ use Rattle.tuple_keys.specs.declared.element.Element.{Element}
 use Rattle.tuple_keys.specs.declared.element.Element.TheVariants.{Null, Bytes, Text, Int}
 use Rattle.tuple_keys.specs.Elements.{IsSmall, IsElement, AreElements}
 use Rattle.tuple_keys.specs.declared.fault.TupleFault.{TupleFault}
-use Rattle.tuple_keys.specs.declared.fault.TupleFault.TheVariants.{Code, Open, Spelling, NotText, NoMemory}
+use Rattle.tuple_keys.specs.declared.fault.TupleFault.TheVariants.{NoMemory}
 use Rattle.tuple_keys.specs.Spelling.{escaped, complement, element_spelling, spelling}
 use Rattle.tuple_keys.proofs.Elements.{TakesElement, element_takes, element_long, reading_takes, reading_again}
-use Rattle.tuple_keys.specs.Reading.{Gives, next_of, in_front, closed_at, digit_of, value, turned, element_at, elements_at, reading}
+use Rattle.tuple_keys.specs.Reading.{in_front, closed_at, value, turned, elements_at, reading}
+use Rattle.tuple_keys.specs.inner.Reading.{Gives, next_of, digit_of, element_at}
 
 pub escaped-append : (xs ys : List ℕ) → escaped (xs ++ ys) ≡ escaped xs ++ escaped ys
 escaped-append [] ys = refl

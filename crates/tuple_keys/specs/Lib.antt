@@ -2,3 +2,4 @@ pub mod Elements
 pub mod Spelling
 pub mod Reading
 pub mod Order
+pub mod inner

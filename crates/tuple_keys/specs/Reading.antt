@@ -33,29 +33,12 @@ use Rattle.std.specs.Prelude.{
 }
 use Rattle.std.specs.Str.{is_utf8}
 use Rattle.fb_bytes.specs.Bytes.{is_same}
-use Rattle.fb_bytes.specs.Results.{◌>>=◌, GivesBut}
+use Rattle.fb_bytes.specs.Results.{◌>>=◌}
 use Rattle.tuple_keys.specs.declared.element.Element.{Element}
 use Rattle.tuple_keys.specs.declared.element.Element.TheVariants.{Null, Bytes, Text, Int}
 use Rattle.tuple_keys.specs.declared.fault.TupleFault.{TupleFault}
-use Rattle.tuple_keys.specs.declared.fault.TupleFault.TheVariants.{
-  Code,
-  Open,
-  Spelling,
-  NotText,
-  NoMemory,
-}
+use Rattle.tuple_keys.specs.declared.fault.TupleFault.TheVariants.{Code, Open, Spelling, NotText}
 use Rattle.tuple_keys.specs.Spelling.{complement}
-
--- what a function returned, seen by view, is what the reading gives, unless memory ran out
-abbrev pub Gives : {X Y : Type 0} → (X → Y) → Result X TupleFault → Result Y TupleFault → Type 0
-Gives view answer reading = GivesBut NoMemory view answer reading
-
--- the next byte of an escaped text, and none where it ends
-abbrev pub next_of : List ℕ → Option (ℕ × List ℕ)
-next_of [] = None
-next_of (zero ∷ []) = None
-next_of (zero ∷ c ∷ bytes) = if c == 255 then Some (0, bytes) else None
-next_of (suc b ∷ bytes) = Some (suc b, bytes)
 
 abbrev pub in_front : ℕ → Result (List ℕ × List ℕ) TupleFault → Result (List ℕ × List ℕ) TupleFault
 in_front b (Ok x) = Ok (b ∷ x.0, x.1)
@@ -76,10 +59,6 @@ text_of at bytes = if is_utf8 bytes then Ok bytes else Err (NotText at)
 abbrev pub value : List ℕ → ℕ
 value [] = 0
 value (b ∷ bytes) = b * 256 ^ length bytes + value bytes
-
-abbrev pub digit_of : Bool → ℕ → ℕ
-digit_of true b = 255 - b
-digit_of false b = b
 
 -- the bytes of a magnitude, which those of a negative number are the complements of
 abbrev pub turned : Bool → List ℕ → List ℕ
@@ -117,11 +96,6 @@ coded_at at code rest =
     else (if nat_le 20 code && nat_le code 28
     then (int_at at false (code - 20) rest >>= λ x. Ok (Int x.0, x.1))
     else Err (Code at)))))
-
--- the element in front of bytes, and what stands behind it
-abbrev pub element_at : ℕ → List ℕ → Result (Element × List ℕ) TupleFault
-element_at at [] = Err (Open at)
-element_at at (code ∷ rest) = coded_at at code rest
 
 -- The elements of the end of a text of that length, at most so many. An element has at least one
 -- byte.

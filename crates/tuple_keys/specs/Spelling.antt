@@ -51,8 +51,7 @@ is_negative (pos n) = false
 is_negative (negsuc n) = true
 
 -- The first byte says the sign and how many bytes follow; 20 is zero. Those of a negative number
--- are
--- the complements of its magnitude's.
+-- are the complements of its magnitude's.
 abbrev pub number_spelling : Bool → ℕ → List ℕ
 number_spelling false m = (20 + length (digits m)) ∷ digits m
 number_spelling true m = (20 - length (digits m)) ∷ complement (digits m)

@@ -3,7 +3,8 @@
 ghost use Rattle.std.specs.Prelude.{◌≡◌, ℕ, ◌<◌, ◌≤◌, ◌^◌, length};
 ghost use Rattle.std.specs.Int.RustNames.{unsigned_abs};
 ghost use Rattle.tuple_keys.specs.Spelling.{without_zeros, is_negative};
-ghost use Rattle.tuple_keys.specs.Reading.{digit_of, value, signed, turned};
+ghost use Rattle.tuple_keys.specs.Reading.{value, signed, turned};
+ghost use Rattle.tuple_keys.specs.inner.Reading.{digit_of};
 
 /// The bytes from the first that isn't zero on.
 pub fn without_zeros(bytes: &[u8]) -> &[u8]

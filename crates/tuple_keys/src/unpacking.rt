@@ -5,7 +5,8 @@ ghost use Rattle.tuple_keys.specs.declared.fault.TupleFault.TheVariants.{NoMemor
 ghost use Rattle.tuple_keys.specs.declared.element.Element.{Element};
 ghost use Rattle.tuple_keys.specs.Elements.{AreElements};
 ghost use Rattle.tuple_keys.specs.Spelling.{spelling};
-ghost use Rattle.tuple_keys.specs.Reading.{Gives, next_of, closed_at, text_of, int_at, coded_at, element_at, reading};
+ghost use Rattle.tuple_keys.specs.Reading.{closed_at, text_of, int_at, coded_at, reading};
+ghost use Rattle.tuple_keys.specs.inner.Reading.{Gives, next_of, element_at};
 
 use crate::numbers::{signed, value_of};
 use crate::{Element, Tuple, TupleFault};

@@ -9,7 +9,7 @@ use Rattle.fb_bytes.specs.declared.KeyRange.{KeyRange}
 use Rattle.fb_bytes.specs.Keys.{holds, is_backwards}
 use Rattle.fb_bytes.proofs.Order.{not_both, below_trans, below_up, below_down, below_itself, below_not_back}
 use Rattle.version_map.specs.Pieces.{Piece, version_at, ArePieces}
-pub use Rattle.version_map.specs.Pieces.{is_past, is_begun}
+pub use Rattle.version_map.specs.inner.Pieces.{is_past, is_begun}
 use Rattle.version_map.specs.Parts.{part_of, parts_between, within}
 use Rattle.version_map.proofs.Held.{by_test, not_false}
 use Rattle.version_map.proofs.Cuts.{AreFrom, all_from, none_before, at_or_past}

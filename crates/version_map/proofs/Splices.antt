@@ -11,7 +11,7 @@ use Rattle.fb_bytes.proofs.Order.{below_trans, below_up, below_not_back}
 use Rattle.version_map.specs.Pieces.{Piece, ArePieces, BeginFrom, keys_before, keys_from, piece_of, front_of, back_of}
 use Rattle.version_map.proofs.Held.{by_test}
 use Rattle.version_map.proofs.Cuts.{AreFrom, all_from, at_or_past}
-use Rattle.version_map.specs.Pieces.{is_past, is_begun}
+use Rattle.version_map.specs.inner.Pieces.{is_past, is_begun}
 use Rattle.version_map.proofs.Halves.{counted, uncounted, pieces_drop}
 
 -- pieces of which none ends past a key

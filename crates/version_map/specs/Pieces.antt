@@ -1,21 +1,5 @@
 -- What a version map keeps: pieces of keys, each with the version that was set there.
-use Rattle.std.specs.Prelude.{
-  ◌≡◌,
-  ℕ,
-  true,
-  false,
-  List,
-  [],
-  ◌∷◌,
-  ◌++◌,
-  Option,
-  Some,
-  None,
-  flat_map,
-  if◌then◌else◌,
-  Bool,
-  not,
-}
+use Rattle.std.specs.Prelude.{◌≡◌, ℕ, true, false, List, [], ◌∷◌, ◌++◌, Option, Some, None, flat_map, if◌then◌else◌}
 use Rattle.fb_bytes.specs.Bytes.{Bytes, is_below}
 use Rattle.fb_bytes.specs.declared.KeyRange.{KeyRange}
 use Rattle.fb_bytes.specs.Keys.{holds, is_backwards}
@@ -68,11 +52,3 @@ ArePieces [] = Unit {0}
 ArePieces (piece ∷ pieces) =
     (is_below piece.range.begin piece.range.end ≡ true) × BeginFrom piece.range.end pieces
     × ArePieces pieces
-
--- the key is at the end of the piece or past it
-abbrev pub is_past : Bytes → Piece → Bool
-is_past key piece = not (is_below key piece.range.end)
-
--- the piece begins below the key
-abbrev pub is_begun : Bytes → Piece → Bool
-is_begun key piece = is_below piece.range.begin key

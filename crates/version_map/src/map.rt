@@ -1,7 +1,8 @@
 ghost use Rattle.std.specs.Prelude.{◌≡◌, ◌≤◌, ◌+◌, ◌++◌, ◌∷◌, false, List, [], length, take, drop, flat_map, IfOk, OnOk, OnErr};
 ghost use Rattle.std.specs.List.{prefix_len};
 ghost use Rattle.fb_bytes.specs.Keys.{is_backwards};
-ghost use Rattle.version_map.specs.Pieces.{Piece, version_at, with_set, front_of, back_of, is_past, is_begun, ArePieces};
+ghost use Rattle.version_map.specs.Pieces.{Piece, version_at, with_set, front_of, back_of, ArePieces};
+ghost use Rattle.version_map.specs.inner.Pieces.{is_past, is_begun};
 ghost use Rattle.version_map.specs.Parts.{parts_of};
 ghost use Rattle.version_map.specs.Laws.{ArePartsOf};
 

@@ -3,7 +3,8 @@
 ghost use Rattle.std.specs.List.{prefix_len};
 ghost use Rattle.std.specs.Prelude.{◌≡◌, ◌≤◌, length};
 ghost use Rattle.version_map.specs.Parts.{parts_of};
-ghost use Rattle.version_map.specs.Pieces.{ArePieces, is_past, is_begun, version_at};
+ghost use Rattle.version_map.specs.Pieces.{ArePieces, version_at};
+ghost use Rattle.version_map.specs.inner.Pieces.{is_past, is_begun};
 
 use crate::Piece;
 use fb_bytes::{KeyRange, is_below};

@@ -21,7 +21,7 @@ use Rattle.workload_text.specs.Texts.{lines_of}
 use Rattle.workload_text.specs.declared.text_fault.TextFault.{TextFault}
 use Rattle.workload_text.specs.declared.text_fault.TextFault.TheVariants.{NotBuilt, NoMemory}
 use Rattle.workload_text.specs.declared.workload.Workload.{Workload}
-use Rattle.workload_text.specs.Reader.{and_then, at_start, closed_at, with_op, with_command, with_part, with_line, at_end, finished, with_said}
+use Rattle.workload_text.specs.inner.Reader.{and_then, at_start, closed_at, with_op, with_command, with_part, with_line, at_end, finished, with_said}
 
 -- what the lines say, from a reader on
 abbrev pub run : Reader → ℕ → List Numbered → Result Built ℕ

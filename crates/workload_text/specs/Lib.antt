@@ -1,4 +1,3 @@
-pub mod Scripts
 pub mod Commands
 pub mod Kinds
 pub mod Texts
@@ -6,4 +5,4 @@ pub mod Lines
 pub mod Parts
 pub mod Grammar
 pub mod Spelled
-pub mod Reader
+pub mod inner

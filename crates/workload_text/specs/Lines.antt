@@ -268,12 +268,6 @@ said_by (word ∷ words) =
 abbrev pub said : Bytes → Option Line
 said line = if list_all is_text_byte line then said_by (words_of line) else Some Bad
 
--- what a line keeps: its block is one of the four, and its command is within the longest key
-abbrev pub IsSound : Line → Type 0
-IsSound (Block block) = is_block block ≡ true
-IsSound (Order command longest) = IsWithin longest command
-IsSound line = Unit {0}
-
 -- ---- the lines of a text
 
 -- a line that says something, and its number in the text

@@ -2,7 +2,8 @@ ghost use Rattle.std.specs.Prelude.{◌≡◌, true, Ok, IfOk, IfSome};
 ghost use Rattle.workload_text.specs.Commands.{IsWithin, is_container_name};
 ghost use Rattle.workload_text.specs.Texts.{words_of};
 ghost use Rattle.workload_text.specs.Lines as spec;
-ghost use Rattle.workload_text.specs.Lines.{IsSound, or_bad};
+ghost use Rattle.workload_text.specs.Lines.{or_bad};
+ghost use Rattle.workload_text.specs.inner.Lines.{IsSound};
 
 use crate::lists::{opening, ranges_said};
 use crate::pieces::{first_word, is_text};

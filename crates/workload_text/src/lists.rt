@@ -4,7 +4,8 @@ ghost use Rattle.std.specs.Prelude.{◌≡◌, ◌<◌, true, length, Some, None
 ghost use Rattle.workload_text.specs.Texts.{words_of};
 ghost use Rattle.workload_text.specs.Commands.{is_container_name};
 ghost use Rattle.workload_text.specs.Lines as spec;
-ghost use Rattle.workload_text.specs.Lines.{IsSound, or_bad, or_whole_space};
+ghost use Rattle.workload_text.specs.Lines.{or_bad, or_whole_space};
+ghost use Rattle.workload_text.specs.inner.Lines.{IsSound};
 ghost use Rattle.std.specs.Option.{option_map};
 
 use crate::line::Line;

@@ -2,12 +2,12 @@ ghost use Rattle.std.specs.Prelude.{◌≡◌, true, IfOk, OnOk};
 ghost use Rattle.block_frame.specs.Profiles.{key_limit_of, limit_of};
 ghost use Rattle.workload_text.specs.declared.reader.Place.TheVariants as places;
 ghost use Rattle.workload_text.specs.Commands.{IsWithin};
-ghost use Rattle.workload_text.specs.Lines.{IsSound};
-ghost use Rattle.workload_text.specs.Scripts.{are_numbered};
+ghost use Rattle.workload_text.specs.inner.Lines.{IsSound};
+ghost use Rattle.workload_text.specs.inner.Scripts.{are_numbered};
 ghost use Rattle.workload_text.specs.Parts.{is_refused};
 ghost use Rattle.workload_text.specs.Grammar.{what, clients_of, Gives};
-ghost use Rattle.workload_text.specs.Reader as spec;
-ghost use Rattle.workload_text.specs.Reader.{IsReady};
+ghost use Rattle.workload_text.specs.inner.Reader as spec;
+ghost use Rattle.workload_text.specs.inner.Reader.{IsReady};
 
 use crate::line::Line;
 use crate::{ClientScript, Command, ScheduleLine, Settings, Side, TextFault, Workload};

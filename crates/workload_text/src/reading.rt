@@ -4,7 +4,7 @@ ghost use Rattle.workload_text.specs.Lines.{numbered};
 ghost use Rattle.workload_text.specs.Lines as lines;
 ghost use Rattle.workload_text.specs.Grammar.{Built, what, whole, built, most_bytes, Gives};
 ghost use Rattle.workload_text.specs.Spelled.{IsTextOf};
-ghost use Rattle.workload_text.specs.Reader.{IsReady, with_said};
+ghost use Rattle.workload_text.specs.inner.Reader.{IsReady, with_said};
 
 use crate::line::said;
 use crate::pieces::first_line;

@@ -1,6 +1,6 @@
 ghost use Rattle.std.specs.Prelude.{◌≡◌, true};
 ghost use Rattle.std.specs.List.{AllByRecursion, AllByRecursion-prop};
-ghost use Rattle.workload_text.specs.Scripts.{are_numbered};
+ghost use Rattle.workload_text.specs.inner.Scripts.{are_numbered};
 ghost use Rattle.workload_text.specs.Commands.{IsCommand, IsCommand-prop};
 
 use crate::{ClientScript, Command, ScheduleLine, Settings};

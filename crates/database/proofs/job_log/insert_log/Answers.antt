@@ -1,5 +1,5 @@
 use Rattle.std.proofs.Common.{◌≡◌, insert, ap, ◌∙◌, arith}
-use Rattle.database.specs.Logs.{place_of}
+use Rattle.database.specs.inner.Logs.{place_of}
 use Rattle.database.proofs.JobLogs.{place_within, inserted}
 use Rattle.database.proofs.job_log.insert_log.Goals as goal
 

@@ -1,6 +1,6 @@
 use Rattle.std.proofs.Common.{rules}
 use Rattle.std.proofs.lemmas.List.Sorted.{IsPartitionPoint-from_clause}
-use Rattle.fb_bytes.specs.Keys.{is_passed}
+use Rattle.fb_bytes.specs.inner.Keys.{is_passed}
 use Rattle.fb_bytes.proofs.Halving.{halved, ends_parted}
 use Rattle.fb_bytes.proofs.ranges.ranges_before.Goals as goal
 

@@ -1,7 +1,7 @@
 use Rattle.std.proofs.Common.{rules, nat_eq}
 use Rattle.std.proofs.lemmas.Iterator.Search.{all_from_yields_List}
 use Rattle.std.proofs.lemmas.Iterator.Splits.{YieldsList-from_slice_split}
-use Rattle.fb_outside.specs.Parts.{is_part}
+use Rattle.fb_outside.specs.inner.Parts.{is_part}
 use Rattle.fb_outside.proofs.parts.is_store_name.Goals as goal
 
 pub returns : goal.returns

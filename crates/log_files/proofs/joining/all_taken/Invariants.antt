@@ -1,6 +1,6 @@
 use Rattle.std.proofs.Common.{◌≡◌, drop}
 use Rattle.log_files.specs.Reading.{all_taken}
-use Rattle.log_files.specs.Seen.{so_far}
+use Rattle.log_files.specs.inner.Seen.{so_far}
 use Rattle.log_files.proofs.joining.all_taken.Given as goal
 
 abbrev pub invariant-loop-row : goal.invariant-loop-row

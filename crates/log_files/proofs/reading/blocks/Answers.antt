@@ -1,7 +1,7 @@
 use Rattle.std.proofs.Common.{◌≡◌, ◌+◌, ◌∙◌, length, arith, sym, ap}
 use Rattle.std.proofs.lemmas.Result.{err_from_is_err_and}
 use Rattle.log_files.specs.Reading as reading
-use Rattle.log_files.specs.Seen.{so_far}
+use Rattle.log_files.specs.inner.Seen.{so_far}
 use Rattle.log_files.specs.declared.fault.LogFault.TheVariants.{NoMemory}
 use Rattle.fb_bytes.proofs.Results.{fails_on}
 use Rattle.block_frame.proofs.Pieces.{piece_is, rest_is}

@@ -1,6 +1,6 @@
 use Rattle.std.proofs.Common.{◌≡◌, ◌+◌, ◌<◌, ◌≤◌, length}
 use Rattle.log_files.specs.Reading.{nothing_yet, blocks_from}
-use Rattle.log_files.specs.Seen.{so_far}
+use Rattle.log_files.specs.inner.Seen.{so_far}
 use Rattle.log_files.proofs.Loops.{BlocksSoFar}
 use Rattle.log_files.proofs.reading.blocks.Given as goal
 

@@ -1,6 +1,6 @@
 use Rattle.std.proofs.Common.{rules}
 use Rattle.std.proofs.lemmas.List.Sorted.{IsPartitionPoint-from_clause}
-use Rattle.mutations.specs.Clipping.{begins_before}
+use Rattle.mutations.specs.inner.Clipping.{begins_before}
 use Rattle.mutations.proofs.Meets.{begins_parted, at_point}
 use Rattle.mutations.proofs.clipping.begun_before.Goals as goal
 

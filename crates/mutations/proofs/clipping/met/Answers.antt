@@ -1,7 +1,7 @@
 use Rattle.std.proofs.Common.{ap, ◌∙◌, ◌-◌, length, take, drop}
 use Rattle.std.specs.List.{prefix_len}
-use Rattle.fb_bytes.specs.Keys.{is_passed}
-use Rattle.mutations.specs.Clipping.{begins_before}
+use Rattle.fb_bytes.specs.inner.Keys.{is_passed}
+use Rattle.mutations.specs.inner.Clipping.{begins_before}
 use Rattle.mutations.proofs.Meets.{separate_behind, met_alone}
 use Rattle.mutations.proofs.clipping.met.Goals as goal
 

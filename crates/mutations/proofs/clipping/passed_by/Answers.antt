@@ -1,6 +1,6 @@
 use Rattle.std.proofs.Common.{rules}
 use Rattle.std.proofs.lemmas.List.Sorted.{IsPartitionPoint-from_clause}
-use Rattle.fb_bytes.specs.Keys.{is_passed}
+use Rattle.fb_bytes.specs.inner.Keys.{is_passed}
 use Rattle.mutations.proofs.Meets.{passed_parted, at_point}
 use Rattle.mutations.proofs.clipping.passed_by.Goals as goal
 

@@ -1,7 +1,7 @@
 use Rattle.std.proofs.Common.{◌∙◌, arith, sym, subst}
 use Rattle.fb_bytes.specs.Pairs.{AreRising}
 use Rattle.range_files.proofs.Items.{HasKey}
-use Rattle.range_files.specs.Seen.{items_from}
+use Rattle.range_files.specs.inner.Seen.{items_from}
 use Rattle.range_files.proofs.Blocks.{structure_found, structure_sizes}
 use Rattle.range_files.proofs.Order.{disorder_none, ordered_rising}
 use Rattle.range_files.proofs.block.read.Goals as goal

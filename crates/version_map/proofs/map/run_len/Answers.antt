@@ -1,6 +1,6 @@
 use Rattle.std.proofs.Common.{◌≤◌, arith, sym, subst}
 use Rattle.std.specs.List.{prefix_len}
-use Rattle.version_map.specs.Pieces.{is_past}
+use Rattle.version_map.specs.inner.Pieces.{is_past}
 use Rattle.version_map.proofs.Splices.{places_ordered, forward}
 use Rattle.version_map.proofs.map.run_len.Goals as goal
 

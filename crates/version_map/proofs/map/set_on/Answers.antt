@@ -1,7 +1,8 @@
 use Rattle.std.proofs.Common.{◌≡◌, ℕ, ◌+◌, ◌-◌, List, length, take, drop, ◌∙◌, ap, arith, sym, subst}
 use Rattle.std.specs.List.{prefix_len}
 use Rattle.std.proofs.lemmas.List.{take_rest}
-use Rattle.version_map.specs.Pieces.{Piece, ArePieces, is_past, is_begun}
+use Rattle.version_map.specs.Pieces.{Piece, ArePieces}
+use Rattle.version_map.specs.inner.Pieces.{is_past, is_begun}
 use Rattle.version_map.proofs.Cuts.{set_ordered}
 use Rattle.version_map.proofs.Splices.{placed, spliced, forward}
 use Rattle.version_map.proofs.map.set_on.Goals as goal

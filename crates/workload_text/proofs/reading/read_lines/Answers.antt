@@ -1,7 +1,7 @@
 use Rattle.std.proofs.Common.{◌≡◌, ◌+◌, rules, Err, length, subst, sym, ◌∙◌}
 use Rattle.workload_text.specs.Texts.{lines_of}
 use Rattle.workload_text.specs.Lines.{numbered, said}
-use Rattle.workload_text.specs.Reader.{with_said}
+use Rattle.workload_text.specs.inner.Reader.{with_said}
 use Rattle.workload_text.specs.Grammar.{what, Gives}
 use Rattle.workload_text.proofs.Running.{run, run_ended, run_failed, whole_line}
 use Rattle.workload_text.proofs.reading.read_lines.Goals as goal

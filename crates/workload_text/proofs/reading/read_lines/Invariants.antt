@@ -1,7 +1,7 @@
 use Rattle.std.proofs.Common.{◌≡◌, ◌+◌, ◌≤◌, length}
 use Rattle.workload_text.specs.Texts.{lines_of}
 use Rattle.workload_text.specs.Lines.{numbered}
-use Rattle.workload_text.specs.Reader.{at_start, IsReady}
+use Rattle.workload_text.specs.inner.Reader.{at_start, IsReady}
 use Rattle.workload_text.proofs.Running.{run}
 use Rattle.workload_text.proofs.reading.read_lines.Given as goal
 

@@ -6,8 +6,9 @@ use Rattle.cluster_core.specs.Jobs.{Job}
 use Rattle.cluster_core.specs.Moves.{Fine, moved}
 use Rattle.cluster_core.specs.Commands.{with_abort}
 use Rattle.cluster_core.specs.Step.{step}
-use Rattle.cluster_core.specs.Plans.{IsPlan, IsSafe}
-use Rattle.cluster_core.specs.World.{Seen, state_of, IsWorld}
+use Rattle.cluster_core.specs.inner.Plans.{IsPlan, IsSafe}
+use Rattle.cluster_core.specs.World.{Seen}
+use Rattle.cluster_core.specs.inner.World.{state_of, IsWorld}
 use Rattle.cluster_core.proofs.Carried.{abort_world, abort_state}
 use Rattle.cluster_core.proofs.Planned.{got}
 use Rattle.cluster_core.proofs.world.World.abort.Goals as goal

@@ -2,7 +2,8 @@ use Rattle.std.proofs.Common.{◌≡◌, ◌++◌, length, take, drop, Ok, ap, s
 use Rattle.cluster_core.specs.Moves.{moved}
 use Rattle.cluster_core.specs.State.{State}
 use Rattle.cluster_core.specs.Step.{commit}
-use Rattle.cluster_core.specs.World.{Seen, Desk, state_of}
+use Rattle.cluster_core.specs.World.{Seen}
+use Rattle.cluster_core.specs.inner.World.{Desk, state_of}
 use Rattle.workload_text.specs.declared.Side.TheVariants.{Src, Dst}
 use Rattle.cluster_core.proofs.Worlds.{commit_leaves_world, commit_done, commit_refused}
 use Rattle.cluster_core.proofs.world.World.commit.Goals as goal

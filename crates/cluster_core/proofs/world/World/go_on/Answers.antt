@@ -1,5 +1,6 @@
 use Rattle.std.proofs.Common.{ℕ, ◌<◌, length, sym, subst}
-use Rattle.cluster_core.specs.World.{Seen, state_of}
+use Rattle.cluster_core.specs.World.{Seen}
+use Rattle.cluster_core.specs.inner.World.{state_of}
 use Rattle.cluster_core.proofs.Carried.{gone_world}
 use Rattle.cluster_core.proofs.world.World.go_on.Goals as goal
 

@@ -1,5 +1,6 @@
 use Rattle.std.proofs.Common.{subst}
-use Rattle.cluster_core.specs.World.{Seen, IsListed, state_of}
+use Rattle.cluster_core.specs.World.{Seen}
+use Rattle.cluster_core.specs.inner.World.{IsListed, state_of}
 use Rattle.cluster_core.proofs.Carried.{listed_first}
 use Rattle.cluster_core.proofs.world.World.least_name.Goals as goal
 

@@ -1,5 +1,5 @@
 use Rattle.std.proofs.Common.{subst}
-use Rattle.cluster_core.specs.World.{IsListed}
+use Rattle.cluster_core.specs.inner.World.{IsListed}
 use Rattle.std.proofs.Common.{ap, ◌∙◌}
 use Rattle.cluster_core.specs.Commands.{gone_on}
 use Rattle.cluster_core.proofs.Carried.{open_refused}

@@ -1,5 +1,5 @@
 use Rattle.std.proofs.Common.{subst}
-use Rattle.cluster_core.specs.Plans.{IsPlan, IsSafe}
+use Rattle.cluster_core.specs.inner.Plans.{IsPlan, IsSafe}
 use Rattle.cluster_core.proofs.Carried.{refuse_room, tell_room, put_room, abort_room, open_room}
 use Rattle.cluster_core.proofs.world.World.operate.Goals as goal
 

@@ -5,13 +5,14 @@ use Rattle.cluster_core.specs.declared.event.Answer.TheVariants as answers
 use Rattle.cluster_core.specs.declared.event.Event.TheVariants as events
 use Rattle.cluster_core.specs.declared.event.StepFault.TheVariants.{VaultFault, NoMemory}
 use Rattle.cluster_core.specs.declared.plan.Plan.TheVariants as plans
-use Rattle.cluster_core.specs.Filed.{changed}
+use Rattle.cluster_core.specs.inner.Filed.{changed}
 use Rattle.cluster_core.specs.Jobs.{Job}
 use Rattle.cluster_core.specs.Moves.{Fine, Starved, moved}
 use Rattle.cluster_core.specs.Step.{step}
-use Rattle.cluster_core.specs.Plans.{IsPlan, IsSafe}
+use Rattle.cluster_core.specs.inner.Plans.{IsPlan, IsSafe}
 use Rattle.cluster_core.specs.State.{State, with_put}
-use Rattle.cluster_core.specs.World.{Seen, IsWorld, state_of}
+use Rattle.cluster_core.specs.World.{Seen}
+use Rattle.cluster_core.specs.inner.World.{IsWorld, state_of}
 use Rattle.cluster_core.proofs.Carried.{put_files, failed_files, put_world, put_done, failed_step, failed_world}
 use Rattle.cluster_core.proofs.Filings.{filed, unfiled, ahead_there}
 use Rattle.cluster_core.proofs.world.World.put.Goals as goal

@@ -10,8 +10,9 @@ use Rattle.cluster_core.specs.Commands.{new_job}
 use Rattle.cluster_core.specs.Jobs.{Job}
 use Rattle.cluster_core.specs.Moves.{Starved, moved}
 use Rattle.cluster_core.specs.Step.{step}
-use Rattle.cluster_core.specs.Plans.{IsPlan}
-use Rattle.cluster_core.specs.World.{Seen, state_of, IsListed}
+use Rattle.cluster_core.specs.inner.Plans.{IsPlan}
+use Rattle.cluster_core.specs.World.{Seen}
+use Rattle.cluster_core.specs.inner.World.{state_of, IsListed}
 use Rattle.cluster_core.proofs.Carried.{IsStart, next_same, none_next, next_logs_none, start_world, start_done, start_spent, start_undone, start_undone_world, taken_back}
 use Rattle.cluster_core.proofs.world.World.start.Goals as goal
 

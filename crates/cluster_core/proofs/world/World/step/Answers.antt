@@ -2,7 +2,7 @@ use Rattle.std.proofs.Common.{[], Ok}
 use Rattle.cluster_core.specs.declared.event.Event.TheVariants as events
 use Rattle.cluster_core.specs.Moves.{Fine}
 use Rattle.cluster_core.proofs.Carried.{made, commit_made}
-use Rattle.cluster_core.proofs.Starved.{starved_step}
+use Rattle.cluster_core.proofs.Footprints.{step_touches}
 use Rattle.cluster_core.proofs.world.World.step.Goals as goal
 use Rattle.cluster_core.proofs.world.World.step.Goals.{in-Begin, in-Commit, in-Command}
 
@@ -13,5 +13,5 @@ returns-clause-step g c = elim c.match-event.branch [
   | in-Command w ↦ made c.args.self.now.workload c.args.self.now.state c.args.event.now events.Command c.match-event.answer w.operate-answer.result c.match-event.self w.operate-answer.new.self w.in-Command.is w.answer-is w.self-is (record { luck = w.operate-answer.ensures.step.0; gives = w.operate-answer.ensures.step.1 })
 ]
 
-pub returns-clause-starved : goal.returns-clause-starved
-returns-clause-starved g c = λ e. starved_step _ _ _ _ _ (returns-clause-step g c) e
+pub returns-clause-footprint : goal.returns-clause-footprint
+returns-clause-footprint g c = step_touches _ _ _ _ _ (returns-clause-step g c)

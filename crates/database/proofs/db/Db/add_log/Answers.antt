@@ -1,5 +1,6 @@
 use Rattle.std.proofs.Common.{◌≡◌, None, sym, subst}
-use Rattle.database.specs.Logs.{AreInOrder, log_of}
+use Rattle.database.specs.Logs.{log_of}
+use Rattle.database.specs.inner.Logs.{AreInOrder}
 use Rattle.database.specs.Commits.{Database}
 use Rattle.database.proofs.JobLogs.{in_order_with}
 use Rattle.database.proofs.db.Db.add_log.Goals as goal

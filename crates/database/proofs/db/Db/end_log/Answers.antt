@@ -1,5 +1,5 @@
 use Rattle.std.proofs.Common.{sym, subst}
-use Rattle.database.specs.Logs.{AreInOrder}
+use Rattle.database.specs.inner.Logs.{AreInOrder}
 use Rattle.database.proofs.JobLogs.{in_order_without}
 use Rattle.database.proofs.db.Db.end_log.Goals as goal
 

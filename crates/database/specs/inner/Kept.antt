@@ -4,7 +4,8 @@ use Rattle.block_frame.specs.Profiles.{limit_of}
 use Rattle.mutations.specs.declared.Entry.{Entry}
 use Rattle.mutations.specs.Histories.{batches_of}
 use Rattle.versioned_kv.specs.Applied.{Contents, Holds}
-use Rattle.database.specs.Logs.{JobLog, AreInOrder}
+use Rattle.database.specs.Logs.{JobLog}
+use Rattle.database.specs.inner.Logs.{AreInOrder}
 
 -- The store holds the history from version 0 on, under the limit of the block, and the logs of jobs
 -- are in order.

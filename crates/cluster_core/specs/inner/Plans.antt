@@ -17,7 +17,7 @@ use Rattle.cluster_core.specs.State.{State, with_job}
 use Rattle.cluster_core.specs.Moves.{Luck, Moved, moved}
 use Rattle.cluster_core.specs.Commands.{gone_on, refuses, done, putting, with_abort, open_listed}
 use Rattle.cluster_core.specs.Commands.{on_job, command_gives}
-use Rattle.cluster_core.specs.Filed.{changed, CanChange}
+use Rattle.cluster_core.specs.inner.Filed.{changed, CanChange}
 use Rattle.cluster_core.specs.Step.{operate}
 
 -- the job at a place is aborted, where there is one

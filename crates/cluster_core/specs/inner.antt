@@ -1,0 +1,4 @@
+-- Definitions that only private clauses cite.
+pub mod Filed
+pub mod Plans
+pub mod World
