@@ -36,7 +36,7 @@ use Rattle.cluster_core.specs.declared.plan.Filing.{Filing}
 use Rattle.cluster_core.specs.declared.plan.Plan.TheVariants as plans
 use Rattle.cluster_core.specs.Jobs.{Job, is_on, with_log_of, logs_from, logs_of}
 use Rattle.cluster_core.specs.State.{State, with_job, with_put}
-use Rattle.cluster_core.specs.Moves.{Luck, Fine, FailsOld, FailsNew, Starved, is_starved, Moved, moved}
+use Rattle.cluster_core.specs.Moves.{Luck, Fine, FailsOld, FailsNew, Starved, is_starved, Moved, moved, Silent, Listed}
 use Rattle.cluster_core.specs.Commands.{gone_on, done, puts, putting, new_job, open_over, with_abort, names_listed, operator_with}
 use Rattle.cluster_core.specs.Step.{step, operate, Step}
 use Rattle.cluster_core.specs.inner.Plans.{aborts, IsPlan, IsLike, IsSafe}
@@ -114,12 +114,12 @@ put_world p src dst v w filing place files h plan safe e f =
       pace = h.pace;
       src_logs = h.src_logs ∙ sym (logs_like Src 1 w.jobs filing.place safe.job (changed filing.change safe.job) safe.at (like_changed filing.change safe.job));
       dst_logs = h.dst_logs ∙ sym (logs_like Dst 1 w.jobs filing.place safe.job (changed filing.change safe.job) safe.at (like_changed filing.change safe.job));
-      sound = sound_step p w (Fine []) _ h.sound (put_step p w filing (Fine []) refl plan safe);
+      sound = sound_step p w (Fine Silent) _ h.sound (put_step p w filing (Fine Silent) refl plan safe);
     }))
 
-pub put_done : (p : Workload) (w : State) (filing : Filing) (place : ℕ) (files : Option (List File)) → IsPlan p w (plans.Put filing) → (safe : IsSafe w (plans.Put filing)) → place ≡ w.place + 1 → files ≡ with_put filing.whole filing.bytes w.files → step p w events.Command (Fine []) ≡ moved (Ok (answers.Placed filing.whole)) (record w { jobs = slice_set w.jobs filing.place (changed filing.change safe.job); place = place; tickets = w.tickets + 1; files = files })
+pub put_done : (p : Workload) (w : State) (filing : Filing) (place : ℕ) (files : Option (List File)) → IsPlan p w (plans.Put filing) → (safe : IsSafe w (plans.Put filing)) → place ≡ w.place + 1 → files ≡ with_put filing.whole filing.bytes w.files → step p w events.Command (Fine Silent) ≡ moved (Ok (answers.Placed filing.whole)) (record w { jobs = slice_set w.jobs filing.place (changed filing.change safe.job); place = place; tickets = w.tickets + 1; files = files })
 put_done p w filing place files plan safe e f =
-    put_step p w filing (Fine []) refl plan safe
+    put_step p w filing (Fine Silent) refl plan safe
     ∙ ap (λ (fs : Option (List File)). moved (Ok (answers.Placed filing.whole)) (record w { jobs = slice_set w.jobs filing.place (changed filing.change safe.job); place = w.place + 1; tickets = w.tickets + 1; files = fs })) (sym f)
     ∙ ap (λ (n : ℕ). moved (Ok (answers.Placed filing.whole)) (record w { jobs = slice_set w.jobs filing.place (changed filing.change safe.job); place = n; tickets = w.tickets + 1; files = files })) (sym e)
 
@@ -187,9 +187,9 @@ other_logs side number (x ∷ xs) zero job at o =
     ∙ sym (ap (λ (b : Bool). cond (b && not x.hand.aborted) (record { job = number; ranges = x.hand.map.ranges; begin = x.hand.begin } ∷ logs_from side (number + 1) xs) (logs_from side (number + 1) xs)) (ap (λ (y : Job). is_on side y.side) same ∙ o))
 other_logs side number (x ∷ xs) (suc place) job at o = ap (with_log_of side number x) (other_logs side (number + 1) xs place job at o)
 
-pub abort_done : (p : Workload) (w : State) (place next : ℕ) (job : Job) → IsPlan p w (plans.Abort place) → slice_get w.jobs place ≡ Some job → next ≡ w.place + 1 → step p w events.Command (Fine []) ≡ moved (Ok answers.Done) (record w { jobs = slice_set w.jobs place (with_abort job); place = next })
+pub abort_done : (p : Workload) (w : State) (place next : ℕ) (job : Job) → IsPlan p w (plans.Abort place) → slice_get w.jobs place ≡ Some job → next ≡ w.place + 1 → step p w events.Command (Fine Silent) ≡ moved (Ok answers.Done) (record w { jobs = slice_set w.jobs place (with_abort job); place = next })
 abort_done p w place next job plan at e =
-    plan (Fine []) ∙ ap (aborts w place) at
+    plan (Fine Silent) ∙ ap (aborts w place) at
     ∙ ap (λ (n : ℕ). moved (Ok answers.Done) (record w { jobs = slice_set w.jobs place (with_abort job); place = n })) (sym e)
 
 abort_side : (p : Workload) (side : Side) (src dst : Database) (v : Versions) (clients : List ClientState) (desk : Desk) (files : Option (List File)) (place : ℕ) (job : Job) → IsWorld p src dst v (state_of clients src dst v desk files) → IsPlan p (state_of clients src dst v desk files) (plans.Abort place) → slice_get desk.jobs place ≡ Some job → side ≡ job.side → IsWorld p (logs_less side Src (place + 1) src) (logs_less side Dst (place + 1) dst) v (state_of clients (logs_less side Src (place + 1) src) (logs_less side Dst (place + 1) dst) v (record { jobs = slice_set desk.jobs place (with_abort job); place = desk.place + 1; tickets = desk.tickets }) files)
@@ -199,7 +199,7 @@ abort_side p Src src dst v clients desk files place job h plan at s = record {
   pace = h.pace;
   src_logs = ap (without_log (place + 1)) h.src_logs ∙ sym (abort_logs Src 1 desk.jobs place job at ∙ ap (λ (n : ℕ). without_log n (logs_from Src 1 desk.jobs)) (let e : 1 + place ≡ place + 1 = omega arith in e));
   dst_logs = h.dst_logs ∙ sym (other_logs Dst 1 desk.jobs place job at (ap (is_on Dst) (sym s)));
-  sound = sound_step p (state_of clients src dst v desk files) (Fine []) _ h.sound (abort_done p (state_of clients src dst v desk files) place (desk.place + 1) job plan at refl);
+  sound = sound_step p (state_of clients src dst v desk files) (Fine Silent) _ h.sound (abort_done p (state_of clients src dst v desk files) place (desk.place + 1) job plan at refl);
 }
 abort_side p Dst src dst v clients desk files place job h plan at s = record {
   src_block = h.src_block;
@@ -207,7 +207,7 @@ abort_side p Dst src dst v clients desk files place job h plan at s = record {
   pace = h.pace;
   src_logs = h.src_logs ∙ sym (other_logs Src 1 desk.jobs place job at (ap (is_on Src) (sym s)));
   dst_logs = ap (without_log (place + 1)) h.dst_logs ∙ sym (abort_logs Dst 1 desk.jobs place job at ∙ ap (λ (n : ℕ). without_log n (logs_from Dst 1 desk.jobs)) (let e : 1 + place ≡ place + 1 = omega arith in e));
-  sound = sound_step p (state_of clients src dst v desk files) (Fine []) _ h.sound (abort_done p (state_of clients src dst v desk files) place (desk.place + 1) job plan at refl);
+  sound = sound_step p (state_of clients src dst v desk files) (Fine Silent) _ h.sound (abort_done p (state_of clients src dst v desk files) place (desk.place + 1) job plan at refl);
 }
 
 pub abort_world : (p : Workload) (side : Side) (src dst src' dst' : Database) (v : Versions) (clients : List ClientState) (desk : Desk) (files : Option (List File)) (place next : ℕ) (job : Job) → src' ≡ logs_less side Src (place + 1) src → dst' ≡ logs_less side Dst (place + 1) dst → next ≡ desk.place + 1 → IsWorld p src dst v (state_of clients src dst v desk files) → IsPlan p (state_of clients src dst v desk files) (plans.Abort place) → slice_get desk.jobs place ≡ Some job → side ≡ job.side → IsWorld p src' dst' v (state_of clients src' dst' v (record { jobs = slice_set desk.jobs place (with_abort job); place = next; tickets = desk.tickets }) files)
@@ -217,7 +217,7 @@ abort_world p side src dst src' dst' v clients desk files place next job a b n h
     (abort_side p side src dst v clients desk files place job h plan at s)))
 
 -- and its step leaves the state of these parts
-pub abort_state : (p : Workload) (side : Side) (src dst src' dst' : Database) (v : Versions) (clients : List ClientState) (desk : Desk) (files : Option (List File)) (place next : ℕ) (job : Job) → src' ≡ logs_less side Src (place + 1) src → dst' ≡ logs_less side Dst (place + 1) dst → next ≡ desk.place + 1 → IsPlan p (state_of clients src dst v desk files) (plans.Abort place) → slice_get desk.jobs place ≡ Some job → step p (state_of clients src dst v desk files) events.Command (Fine []) ≡ moved (Ok answers.Done) (state_of clients src' dst' v (record { jobs = slice_set desk.jobs place (with_abort job); place = next; tickets = desk.tickets }) files)
+pub abort_state : (p : Workload) (side : Side) (src dst src' dst' : Database) (v : Versions) (clients : List ClientState) (desk : Desk) (files : Option (List File)) (place next : ℕ) (job : Job) → src' ≡ logs_less side Src (place + 1) src → dst' ≡ logs_less side Dst (place + 1) dst → next ≡ desk.place + 1 → IsPlan p (state_of clients src dst v desk files) (plans.Abort place) → slice_get desk.jobs place ≡ Some job → step p (state_of clients src dst v desk files) events.Command (Fine Silent) ≡ moved (Ok answers.Done) (state_of clients src' dst' v (record { jobs = slice_set desk.jobs place (with_abort job); place = next; tickets = desk.tickets }) files)
 abort_state p side src dst src' dst' v clients desk files place next job a b n plan at =
     abort_done p (state_of clients src dst v desk files) place next job plan at n
     ∙ ap (λ (h : List Entry). moved (Ok answers.Done) (record (state_of clients src dst v (record { jobs = slice_set desk.jobs place (with_abort job); place = next; tickets = desk.tickets }) files) { src = h })) (sym (ap (λ (x : Database). x.history) a ∙ less_history side Src (place + 1) src))
@@ -345,8 +345,8 @@ pub start_done : (p : Workload) (side : Side) (tag container : Bytes) (ranges : 
 start_done p side tag container ranges src dst src' dst' v v' clients desk files jobs next version pace i plan listed =
     let w : State = state_of clients src dst v desk files in
     let n = next_is v.now p.settings.pace version (ap (next_version v.now) (sym pace) ∙ i.version_is) in (
-      Fine listed.0,
-      plan (Fine listed.0)
+      Fine (Listed listed.0),
+      plan (Fine (Listed listed.0))
           ∙ ap (open_over p.settings w tag side container ranges) listed.1
           ∙ ap (λ (b : Bool). cond b (moved (Err (VersionsSpent v.now)) w) (done (record w { time = v.now + p.settings.pace; jobs = desk.jobs ++ new_job tag side container ranges (v.now + p.settings.pace) ∷ [] }))) n.0
           ∙ ap (λ (t : ℕ). done (record w { time = t; jobs = desk.jobs ++ new_job tag side container ranges t ∷ [] })) n.1
@@ -389,8 +389,8 @@ taken_back jobs count job e = ap (λ (n : ℕ). take n (jobs ++ job ∷ [])) e �
 -- there is no version left
 pub start_spent : (p : Workload) (side : Side) (tag container : Bytes) (ranges : List KeyRange) (w : State) → nat_lt most_version (w.time + p.settings.pace) ≡ true → IsPlan p w (plans.Open tag side container ranges) → IsListed w container None → (luck : Luck) × (step p w events.Command luck ≡ moved (Err (VersionsSpent w.time)) w)
 start_spent p side tag container ranges w t plan listed = (
-  Fine listed.0,
-  plan (Fine listed.0)
+  Fine (Listed listed.0),
+  plan (Fine (Listed listed.0))
       ∙ ap (open_over p.settings w tag side container ranges) listed.1
       ∙ ap (λ (b : Bool). cond b (moved (Err (VersionsSpent w.time)) w) (done (record w { time = w.time + p.settings.pace; jobs = w.jobs ++ new_job tag side container ranges (w.time + p.settings.pace) ∷ [] }))) t,
 )
@@ -399,7 +399,7 @@ start_spent p side tag container ranges w t plan listed = (
 
 pub open_refused : (p : Workload) (side : Side) (tag container : Bytes) (ranges : List KeyRange) (w new : State) (name : Bytes) → IsPlan p w (plans.Open tag side container ranges) → IsListed w container (Some name) → new ≡ gone_on w → (luck : Luck) × (step p w events.Command luck ≡ moved (Ok (answers.Refused (ContainerInUse name))) new)
 open_refused p side tag container ranges w new name plan listed e =
-    (Fine listed.0, plan (Fine listed.0) ∙ ap (open_over p.settings w tag side container ranges) listed.2 ∙ ap (moved (Ok (answers.Refused (ContainerInUse name)))) (sym e))
+    (Fine (Listed listed.0), plan (Fine (Listed listed.0)) ∙ ap (open_over p.settings w tag side container ranges) listed.2 ∙ ap (moved (Ok (answers.Refused (ContainerInUse name)))) (sym e))
 
 -- the list failed, or there was no memory for it
 pub open_failed : (p : Workload) (side : Side) (tag container : Bytes) (ranges : List KeyRange) (w new : State) (fault : StepFault) → IsPlan p w (plans.Open tag side container ranges) → new ≡ w → (fault ≡ VaultFault) ⊎ (fault ≡ NoMemory) → (luck : Luck) × (step p w events.Command luck ≡ moved (Err fault) new)
@@ -442,5 +442,5 @@ made p old event e answer a new n x y z s =
     (subst (λ (t : Seen). Step p old e a t.state) (sym z) s))
 
 pub commit_made : (p : Workload) (old : State) (number : ℕ) (result : Result Answer StepFault) (new : State) → CommitSteps p.settings old number result new → Step p old (events.Commit number) result new
-commit_made p old number (Ok answer) new h = record { luck = Fine []; gives = h }
+commit_made p old number (Ok answer) new h = record { luck = Fine Silent; gives = h }
 commit_made p old number (Err fault) new h = record { luck = Starved; gives = ap (moved (Err NoMemory)) (sym h.1) ∙ ap (λ (f : StepFault). moved (Err f) new) (sym h.0) }

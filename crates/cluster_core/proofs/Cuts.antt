@@ -112,12 +112,12 @@ chunk_batches w side place job logs history from until begin end batches at s r 
 
 pub chunk_writable : (p : Workload) (w : State) (place : ℕ) (job : Job) (block begin end : ℕ) (batches : List Batch) → Sound p w → slice_get w.jobs place ≡ Some job → job.hand.aborted ≡ false → block ≡ p.settings.block → begin ≡ job.hand.next → batches ≡ logged (history_on job.side w) job.hand.map.ranges begin end → logs.IsWritable block begin end batches
 chunk_writable p w place job block begin end batches h at r b n e =
-    let j = h.jobs place job at in
+    let j = h.jobs.each place job at in
     let listed : is_block p.settings.block ≡ true = p.settings.block_listed in
     let begun : job.hand.begin ≤ begin = (let q = j.begun in omega arith) in
     subst (λ (k : ℕ). logs.IsWritable k begin end batches) (sym b)
     (subst (λ (bs : List Batch). logs.IsWritable p.settings.block begin end bs) (sym e)
-    (cut_writable known p.settings.block begin end job.hand.begin (history_on job.side w) job.hand.map.ranges listed (h.histories job.side).rising begun (j.logged r)))
+    (cut_writable known p.settings.block begin end job.hand.begin (history_on job.side w) job.hand.map.ranges listed (h.databases.histories job.side).rising begun (j.logged r)))
 
 pub chunk_text : (p : Workload) (w : State) (job : Job) (block begin end : ℕ) (batches : List Batch) → block ≡ p.settings.block → begin ≡ job.hand.next → end ≡ w.time + 1 → batches ≡ logged (history_on job.side w) job.hand.map.ranges begin end → log_text block batches ≡ cut_bytes p.settings w job
 chunk_text p w job block begin end batches b n t e =
@@ -158,13 +158,13 @@ pub record IsSealable (m : Manifest) : Type 0 where
 
 pub sealable : (p : Workload) (w : State) (place : ℕ) (job : Job) (m : Manifest) → Sound p w → slice_get w.jobs place ≡ Some job → gap job.hand.map ≡ None → m ≡ manifest_of job.hand.map.noted → IsSealable m
 sealable p w place job m h at g e =
-    let j = h.jobs place job at in
+    let j = h.jobs.each place job at in
     let tiled = tiles known job.hand.map.ranges job.hand.map.noted j.ranges.separate j.pieces j.inside g in
     let some = some_noted job.hand.map.ranges job.hand.map.noted j.some j.ranges.separate tiled in
     subst IsSealable (sym e) (record {
       whole = sealed_whole known p.settings.block w.time w.tickets (history_on job.side w) job j some;
       order = known.manifests.order job.hand.map.noted;
-      end = known.manifests.end job.hand.map.noted most_version (All-weaker (IsNoted p.settings.block w.time w.tickets) (λ n. n.file.version ≤ most_version) job.hand.map.noted (λ n q. let v = q.past in let b = h.bound in omega arith) j.noted);
+      end = known.manifests.end job.hand.map.noted most_version (All-weaker (IsNoted p.settings.block w.time w.tickets) (λ n. n.file.version ≤ most_version) job.hand.map.noted (λ n q. let v = q.past in let b = h.clock.bound in omega arith) j.noted);
     })
 
 untiled : (o : Option Bytes) (fault : MapFault) (key : Bytes) → fault ≡ faults.Untiled key → (fault ≡ faults.NoMemory) ⊎ (option_map (λ (k : Bytes). faults.Untiled k) o ≡ Some fault) → o ≡ Some key

@@ -22,7 +22,7 @@ use Rattle.cluster_core.specs.declared.StepFault.TheVariants.{VersionsSpent, NoM
 use Rattle.cluster_core.specs.declared.Refusal.TheVariants.{TagBusy, WrongState, NothingNew}
 use Rattle.cluster_core.specs.Jobs.{Job, Found, newest, started_in, state_of_job, logs_of}
 use Rattle.cluster_core.specs.State.{State, history_on, with_history, client_at, put_client, with_job, with_put}
-use Rattle.cluster_core.specs.Moves.{Luck, Fine, FailsOld, FailsNew, Starved, is_starved, Moved, moved}
+use Rattle.cluster_core.specs.Moves.{names_said, Luck, Fine, FailsOld, FailsNew, Starved, is_starved, Moved, moved}
 use Rattle.cluster_core.specs.Commands.{gone_on, done, refuses, new_job, starts, names_listed, open_over, open_listed, open_untaken, is_busy, open_job, puts, putting, dump_name, dump_bytes, with_dump, cut_name, cut_bytes, with_cut, seal_name, with_seal, dump_tested, dump_piece, cut_put, cut_log, seal_fitting, snapshot_bytes, seal_tested, seal_job, with_abort, abort_job, on_running, on_found, command_gives, operator_with}
 use Rattle.cluster_core.specs.Step.{begin_with, commit_with, try_in, event_gives, step, Step}
 use Rattle.cluster_core.specs.Footprints.{IsEntered, IsJobChanged, IsJobStarted, IsFilePut, Footprint, FootprintLaw}
@@ -152,7 +152,7 @@ over_touches s w tag side container ranges [] = starts_touches s w tag side cont
 over_touches s w tag side container ranges (name ∷ names) = gone s.pace w _
 
 listed_touches : (s : Settings) (w : State) (tag : Bytes) (side : Side) (container : Bytes) (ranges : List KeyRange) (luck : Luck) → Touches s.pace w (open_listed s w tag side container ranges luck)
-listed_touches s w tag side container ranges (Fine said) = over_touches s w tag side container ranges (names_listed container w.files said)
+listed_touches s w tag side container ranges (Fine said) = over_touches s w tag side container ranges (names_listed container w.files (names_said said))
 listed_touches s w tag side container ranges FailsOld = same s.pace w _
 listed_touches s w tag side container ranges FailsNew = same s.pace w _
 listed_touches s w tag side container ranges Starved = same s.pace w _

@@ -15,7 +15,7 @@ use Rattle.backup_core.specs.Hand.{BackupJob}
 use Rattle.cluster_core.specs.Jobs.{Job}
 use Rattle.cluster_core.specs.State.{State, history_on, with_job, with_put}
 use Rattle.cluster_core.specs.Commands.{gone_on}
-use Rattle.cluster_core.specs.Sound.{IsDrawn, IsJobSound, IsStored, AreStored, AreApart, Sound, source_of}
+use Rattle.cluster_core.specs.Sound.{IsDrawn, IsJobSound, IsStored, AreApart, AreContainersSound, Sound, view_of, source_of}
 use Rattle.cluster_core.proofs.Lists.{same_or_other}
 use Rattle.cluster_core.proofs.All.{each_set}
 use Rattle.cluster_core.proofs.Known.{Known}
@@ -25,32 +25,21 @@ use Rattle.cluster_core.proofs.Puts.{IsFresh, stored_put, stored_elsewhere}
 -- ---- the operator goes on
 
 pub sound_gone : (p : Workload) (w : State) → Sound p w → Sound p (gone_on w)
-sound_gone p w h = record {
-  bound = h.bound;
-  histories = h.histories;
-  within = h.within;
-  scripts_are = h.scripts_are;
-  clients = h.clients;
-  tickets = h.tickets;
-  jobs = h.jobs;
-  apart = h.apart;
-  stored = λ files e. let s = h.stored files e in record { ordered = s.ordered; each = s.each };
-}
+sound_gone p w h = record { clock = h.clock; databases = h.databases; clients = h.clients; jobs = h.jobs; containers = h.containers }
 
 -- ---- a ticket is drawn
 
 pub sound_drawn : (k : Known) (p : Workload) (w : State) → w.tickets ≤ most_version → Sound p w → Sound p (record w { tickets = w.tickets + 1 })
 sound_drawn k p w d h = record {
-  bound = h.bound;
-  histories = h.histories;
-  within = h.within;
-  scripts_are = h.scripts_are;
+  clock = record { bound = h.clock.bound; tickets = omega arith };
+  databases = h.databases;
   clients = h.clients;
-  tickets = omega arith;
-  jobs = λ place job e. let j = h.jobs place job e in job_grown p.settings.block w.time w.time w.tickets (w.tickets + 1) (history_on job.side w) (history_on job.side w) job (same w.time) (more w.tickets) j.logged j;
-  apart = h.apart;
-  stored = λ files e.
-      let s = h.stored files e in
+  jobs = record {
+    each = λ place job e. let j = h.jobs.each place job e in job_grown p.settings.block w.time w.time w.tickets (w.tickets + 1) (history_on job.side w) (history_on job.side w) job (same w.time) (more w.tickets) j.logged j;
+    apart = h.jobs.apart;
+  };
+  containers = λ files e.
+      let s = h.containers files e in
       record { ordered = s.ordered; each = λ place job at. stored_grown k p.settings.block w.time w.time w.tickets (w.tickets + 1) (history_on job.side w) (history_on job.side w) files job (waits p.settings.block w.time w.time (history_on job.side w) job (same w.time)) (more w.tickets) (s.each place job at) };
 }
   where
@@ -74,15 +63,15 @@ file_put whole bytes (Some before) files e = (before, refl, some_is (with_file b
     some_is : (a b : List File) → Some a ≡ Some b → a ≡ b
     some_is a b q = cc
 
-stored_each : (k : Known) (p : Workload) (w : State) (place : ℕ) (job : Job) (name bytes : Bytes) (files : List File) → Sound p w → slice_get w.jobs place ≡ Some job → IsFresh w.tickets name → AreStored p.settings.block w files → IsGood p w job name bytes files → (m : ℕ) (x : Job) → slice_get w.jobs m ≡ Some x → IsStored p.settings.block w.time w.tickets (history_on x.side w) (with_file files (whole_name job.container name) bytes) x
+stored_each : (k : Known) (p : Workload) (w : State) (place : ℕ) (job : Job) (name bytes : Bytes) (files : List File) → Sound p w → slice_get w.jobs place ≡ Some job → IsFresh w.tickets name → AreContainersSound (view_of p.settings.block w) files → IsGood p w job name bytes files → (m : ℕ) (x : Job) → slice_get w.jobs m ≡ Some x → IsStored p.settings.block w.time w.tickets (history_on x.side w) (with_file files (whole_name job.container name) bytes) x
 stored_each k p w place job name bytes files h at fresh s good m x e =
     elim (same_or_other place m) [
       | inl i ↦
           let same : job ≡ x = some_is job x (sym at ∙ ap (slice_get w.jobs) i ∙ e) in
           let st = s.each place job at in
           subst (λ (y : Job). IsStored p.settings.block w.time w.tickets (history_on y.side w) (with_file files (whole_name job.container name) bytes) y) same
-          (stored_put k p.settings.block w.time w.tickets (history_on job.side w) files job name bytes s.ordered fresh (h.jobs place job at).noted st (good.honest st) good.lists)
-      | inr d ↦ stored_elsewhere k p.settings.block w.time w.tickets (history_on x.side w) files x (whole_name job.container name) bytes (k.files.apart job.container x.container name (h.jobs place job at).named (h.jobs m x e).named (not_same job.container x.container (λ t. d (h.apart place m job x at e t)))) (s.each m x e)
+          (stored_put k p.settings.block w.time w.tickets (history_on job.side w) files job name bytes s.ordered fresh (h.jobs.each place job at).noted st (good.honest st) good.lists)
+      | inr d ↦ stored_elsewhere k p.settings.block w.time w.tickets (history_on x.side w) files x (whole_name job.container name) bytes (k.files.apart job.container x.container name (h.jobs.each place job at).named (h.jobs.each m x e).named (not_same job.container x.container (λ t. d (h.jobs.apart place m job x at e t)))) (s.each m x e)
     ]
   where
     some_is : (a b : Job) → Some a ≡ Some b → a ≡ b
@@ -97,18 +86,14 @@ stored_each k p w place job name bytes files h at fresh s good m x e =
 
 pub sound_filed : (k : Known) (p : Workload) (w : State) (place : ℕ) (job : Job) (name bytes : Bytes) → Sound p w → slice_get w.jobs place ≡ Some job → IsFresh w.tickets name → ((files : List File) → w.files ≡ Some files → IsGood p w job name bytes files) → Sound p (record w { files = with_put (whole_name job.container name) bytes w.files })
 sound_filed k p w place job name bytes h at fresh good = record {
-  bound = h.bound;
-  histories = h.histories;
-  within = h.within;
-  scripts_are = h.scripts_are;
+  clock = h.clock;
+  databases = h.databases;
   clients = h.clients;
-  tickets = h.tickets;
   jobs = h.jobs;
-  apart = h.apart;
-  stored = λ files e.
+  containers = λ files e.
       let b = file_put (whole_name job.container name) bytes w.files files e in
-      let s = h.stored b.0 b.1 in
-      subst (λ (fs : List File). AreStored p.settings.block (record w { files = with_put (whole_name job.container name) bytes w.files }) fs) b.2
+      let s = h.containers b.0 b.1 in
+      subst (λ (fs : List File). AreContainersSound (view_of p.settings.block w) fs) b.2
       (record { ordered = k.files.ordered b.0 (whole_name job.container name) bytes s.ordered; each = stored_each k p w place job name bytes b.0 h at fresh s (good b.0 b.1) });
 }
 
@@ -130,15 +115,14 @@ apart_set jobs place old new at c h a b first second e f =
 
 pub sound_changed : (p : Workload) (w : State) (place : ℕ) (old : Job) (hand : BackupJob) → Sound p w → slice_get w.jobs place ≡ Some old → IsJobSound p.settings.block w.time w.tickets (history_on old.side w) (record old { hand = hand }) → ((files : List File) → w.files ≡ Some files → IsStored p.settings.block w.time w.tickets (history_on old.side w) files (record old { hand = hand })) → Sound p (with_job place (record old { hand = hand }) w)
 sound_changed p w place old hand h at j s = record {
-  bound = h.bound;
-  histories = h.histories;
-  within = h.within;
-  scripts_are = h.scripts_are;
+  clock = h.clock;
+  databases = h.databases;
   clients = h.clients;
-  tickets = h.tickets;
-  jobs = each_set (λ m x. IsJobSound p.settings.block w.time w.tickets (history_on x.side w) x) w.jobs place old (record old { hand = hand }) at j (λ m x d e. h.jobs m x e);
-  apart = apart_set w.jobs place old (record old { hand = hand }) at refl h.apart;
-  stored = λ files e.
-      let t = h.stored files e in
+  jobs = record {
+    each = each_set (λ m x. IsJobSound p.settings.block w.time w.tickets (history_on x.side w) x) w.jobs place old (record old { hand = hand }) at j (λ m x d e. h.jobs.each m x e);
+    apart = apart_set w.jobs place old (record old { hand = hand }) at refl h.jobs.apart;
+  };
+  containers = λ files e.
+      let t = h.containers files e in
       record { ordered = t.ordered; each = each_set (λ m x. IsStored p.settings.block w.time w.tickets (history_on x.side w) files x) w.jobs place old (record old { hand = hand }) at (s files e) (λ m x d f. t.each m x f) };
 }

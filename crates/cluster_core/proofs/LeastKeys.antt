@@ -39,7 +39,7 @@ tested_free s w found piece luck None (Some k) e = cc
 tested_free s w found piece luck None None e = refl
 
 map_kept : (p : Workload) (w : State) (tag : Bytes) (found : Found) → Sound p w → newest tag w.jobs ≡ Some found → IsMap found.job.hand.map
-map_kept p w tag found h e = let j = h.jobs found.place found.job (newest_at tag w.jobs found e) in record { ranges = j.ranges.separate; pieces = j.pieces }
+map_kept p w tag found h e = let j = h.jobs.each found.place found.job (newest_at tag w.jobs found e) in record { ranges = j.ranges.separate; pieces = j.pieces }
 
 pub least_key_law : LeastKeyLaw
 least_key_law p w luck tag piece found h e a =

@@ -62,13 +62,9 @@ no_job (suc n) job e = cc
 
 pub opening_is_sound : OpeningLaw
 opening_is_sound workload files ordered = record {
-  bound = omega arith;
-  histories = ordered_none;
-  within = within_none workload.settings.block;
-  scripts_are = scripts_new workload.clients;
-  clients = each_new workload;
-  tickets = omega arith;
-  jobs = λ place job e. no_job place job e;
-  apart = λ a b first second e f s. no_job a first e;
-  stored = λ told e. record { ordered = ordered told e; each = λ place job f. no_job place job f };
+  clock = record { bound = omega arith; tickets = omega arith };
+  databases = record { histories = ordered_none; within = within_none workload.settings.block };
+  clients = record { scripts_are = scripts_new workload.clients; each = each_new workload };
+  jobs = record { each = λ place job e. no_job place job e; apart = λ a b first second e f s. no_job a first e };
+  containers = λ told e. record { ordered = ordered told e; each = λ place job f. no_job place job f };
 }

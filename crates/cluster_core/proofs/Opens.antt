@@ -25,7 +25,7 @@ use Rattle.cluster_core.specs.declared.event.StepFault.TheVariants.{VersionsSpen
 use Rattle.cluster_core.specs.declared.refusal.Refusal.TheVariants.{TagBusy}
 use Rattle.cluster_core.specs.Jobs.{Job, newest, started_in}
 use Rattle.cluster_core.specs.State.{State, history_on}
-use Rattle.cluster_core.specs.Moves.{Luck, Fine, FailsOld, FailsNew, Starved, moved}
+use Rattle.cluster_core.specs.Moves.{names_said, Luck, Fine, FailsOld, FailsNew, Starved, moved}
 use Rattle.cluster_core.specs.Commands.{done, refuses, new_job, starts, names_listed, open_over, open_listed, open_untaken, is_busy, open_job}
 use Rattle.cluster_core.specs.Sound.{IsOrdered, AreLoggable, IsJobSound, IsStored, AreApart, Sound}
 use Rattle.cluster_core.proofs.Entries.{All-weaker}
@@ -125,20 +125,19 @@ apart_more jobs new none h a b first second e f =
 sound_more : (k : Known) (p : Workload) (w : State) (tag : Bytes) (side : Side) (container : Bytes) (ranges : List KeyRange) (version : ℕ) → Sound p w → w.time < version → version ≤ most_version → IsOpening tag container ranges → started_in container w.jobs ≡ None → ((files : List File) → w.files ≡ Some files → names_inside container files ≡ []) → Sound p (record w { time = version; jobs = w.jobs ++ new_job tag side container ranges version ∷ [] })
 sound_more k p w tag side container ranges version h l m i none empty =
     let le : w.time ≤ version = omega arith in
-    let later : (t : Side) → IsOrdered version (history_on t w) = λ t. let q = h.histories t in record { rising = q.rising; past = All-weaker (λ (x : Entry). x.version ≤ w.time) (λ (x : Entry). x.version ≤ version) (history_on t w) (λ x r. omega arith) q.past } in
+    let later : (t : Side) → IsOrdered version (history_on t w) = λ t. let q = h.databases.histories t in record { rising = q.rising; past = All-weaker (λ (x : Entry). x.version ≤ w.time) (λ (x : Entry). x.version ≤ version) (history_on t w) (λ x r. omega arith) q.past } in
     record {
-      bound = m;
-      histories = later;
-      within = h.within;
-      scripts_are = h.scripts_are;
+      clock = record { bound = m; tickets = h.clock.tickets };
+      databases = record { histories = later; within = h.databases.within };
       clients = h.clients;
-      tickets = h.tickets;
-      jobs = each_more (λ n x. IsJobSound p.settings.block version w.tickets (history_on x.side w) x) w.jobs (new_job tag side container ranges version)
-          (new_sound p.settings.block w.time w.tickets version (history_on side w) tag side container ranges i l (h.histories side).past)
-          (λ n x e. let j = h.jobs n x e in job_grown p.settings.block w.time version w.tickets w.tickets (history_on x.side w) (history_on x.side w) x le (same w.tickets) j.logged j);
-      apart = apart_more w.jobs (new_job tag side container ranges version) none h.apart;
-      stored = λ files e.
-          let s = h.stored files e in
+      jobs = record {
+        each = each_more (λ n x. IsJobSound p.settings.block version w.tickets (history_on x.side w) x) w.jobs (new_job tag side container ranges version)
+            (new_sound p.settings.block w.time w.tickets version (history_on side w) tag side container ranges i l (h.databases.histories side).past)
+            (λ n x e. let j = h.jobs.each n x e in job_grown p.settings.block w.time version w.tickets w.tickets (history_on x.side w) (history_on x.side w) x le (same w.tickets) j.logged j);
+        apart = apart_more w.jobs (new_job tag side container ranges version) none h.jobs.apart;
+      };
+      containers = λ files e.
+          let s = h.containers files e in
           record {
             ordered = s.ordered;
             each = each_more (λ n x. IsStored p.settings.block version w.tickets (history_on x.side w) files x) w.jobs (new_job tag side container ranges version)
@@ -168,7 +167,7 @@ over_keeps k p w tag side container ranges [] said h i none e = starts_keeps k p
 over_keeps k p w tag side container ranges (name ∷ names) said h i none e = sound_gone p w h
 
 listed_keeps : (k : Known) (p : Workload) (w : State) (tag : Bytes) (side : Side) (container : Bytes) (ranges : List KeyRange) (luck : Luck) → Sound p w → IsOpening tag container ranges → started_in container w.jobs ≡ None → Sound p (open_listed p.settings w tag side container ranges luck).state
-listed_keeps k p w tag side container ranges (Fine said) h i none = over_keeps k p w tag side container ranges (names_listed container w.files said) said h i none refl
+listed_keeps k p w tag side container ranges (Fine said) h i none = over_keeps k p w tag side container ranges (names_listed container w.files (names_said said)) (names_said said) h i none refl
 listed_keeps k p w tag side container ranges FailsOld h i none = h
 listed_keeps k p w tag side container ranges FailsNew h i none = h
 listed_keeps k p w tag side container ranges Starved h i none = h

@@ -56,7 +56,7 @@ puts_keeps k p w place job hand name bytes (Fine said) h at t o =
     let filed = sound_filed k p w place job name bytes h at o.fresh o.good in
     let drawn = sound_drawn k p (record w { files = with_put (whole_name job.container name) bytes w.files }) t filed in
     let changed = sound_changed p (record w { files = with_put (whole_name job.container name) bytes w.files; tickets = w.tickets + 1 }) place job hand drawn at o.after
-    (λ files e. o.stored files (put_there k (whole_name job.container name) bytes w.files files e) ((drawn.stored files e).each place job at)) in
+    (λ files e. o.stored files (put_there k (whole_name job.container name) bytes w.files files e) ((drawn.containers files e).each place job at)) in
     sound_gone p (with_job place (record job { hand = hand }) (record w { files = with_put (whole_name job.container name) bytes w.files; tickets = w.tickets + 1 })) changed
 puts_keeps k p w place job hand name bytes FailsOld h at t o = h
 puts_keeps k p w place job hand name bytes FailsNew h at t o = sound_filed k p w place job name bytes h at o.fresh o.good
@@ -80,12 +80,12 @@ fresh_range name tickets snapshot version block n s v t b e d = let same : ticke
 dump_order : (k : Known) (p : Workload) (w : State) (place : ℕ) (job : Job) (piece : KeyRange) → Sound p w → slice_get w.jobs place ≡ Some job → IsPiece (key_limit_of p.settings.block) piece → IsFree job.hand.map.ranges job.hand.map.noted piece → w.tickets ≤ most_version
     → IsOrder p w place job (with_dump p.settings w job piece).hand (dump_name p.settings w job) (dump_bytes p.settings w job piece)
 dump_order k p w place job piece h at i f t =
-    let j = h.jobs place job at in
+    let j = h.jobs.each place job at in
     let block : is_block p.settings.block ≡ true = p.settings.block_listed in
-    let bound : w.time ≤ most_version = h.bound in
+    let bound : w.time ≤ most_version = h.clock.bound in
     let snapshot : snapshot_at job.hand w.time ≤ most_version = snapshot_le job.hand.map.noted w.time job.hand.snapshot most_version bound (let s = j.snapshot in omega arith) in
     let name : name_of (dump_name p.settings w job) ≡ Range (snapshot_at job.hand w.time) w.time w.tickets p.settings.block = named k (range_name job.hand w.time w.tickets p.settings.block) (range_spelled (snapshot_at job.hand w.time) w.time w.tickets p.settings.block snapshot bound t block) in
-    let honest = dump_honest k p.settings.block w.time (history_on job.side w) job piece (dump_name p.settings w job) block (h.within job.side) i in
+    let honest = dump_honest k p.settings.block w.time (history_on job.side w) job piece (dump_name p.settings w job) block (h.databases.within job.side) i in
     record {
       fresh = fresh_range (dump_name p.settings w job) w.tickets (snapshot_at job.hand w.time) w.time p.settings.block name;
       good = λ files e. record {
@@ -96,7 +96,7 @@ dump_order k p w place job piece h at i f t =
       stored = λ files there st. record {
         honest = st.honest;
         there = all_placed (IsThere p.settings.block job.container files) (λ x. is_below x.piece.begin piece.begin) (record { piece = piece; file = record { name = dump_name p.settings w job; version = w.time; bytes = length (dump_bytes p.settings w job piece) } }) job.hand.map.noted
-            (record { bytes = dump_bytes p.settings w job piece; file = there; pairs = pairs_at p.settings.block (history_on job.side w) w.time piece; content = dump_content k p.settings.block w.time (history_on job.side w) piece block (h.within job.side) i })
+            (record { bytes = dump_bytes p.settings w job piece; file = there; pairs = pairs_at p.settings.block (history_on job.side w) w.time piece; content = dump_content k p.settings.block w.time (history_on job.side w) piece block (h.databases.within job.side) i })
             st.there;
         listed = st.listed;
       };
@@ -112,7 +112,7 @@ dump_put_keeps k p w found piece luck h at i f = putting_keeps k p w found.place
 dump_tested_keeps : (k : Known) (p : Workload) (w : State) (found : Found) (piece : KeyRange) (luck : Luck) (a b : Option Bytes) → Sound p w → slice_get w.jobs found.place ≡ Some found.job → IsPiece (key_limit_of p.settings.block) piece → outside found.job.hand.map.ranges piece ≡ a → overlap (pieces_of found.job.hand.map.noted) piece ≡ b → Sound p (dump_tested p.settings w found piece luck a b).state
 dump_tested_keeps k p w found piece luck (Some key) b h at i o v = sound_gone p w h
 dump_tested_keeps k p w found piece luck None (Some key) h at i o v = sound_gone p w h
-dump_tested_keeps k p w found piece luck None None h at i o v = dump_put_keeps k p w found piece luck h at i (is_free k p.settings.block w.time w.tickets (history_on found.job.side w) found.job piece (h.jobs found.place found.job at) i.forward o v)
+dump_tested_keeps k p w found piece luck None None h at i o v = dump_put_keeps k p w found piece luck h at i (is_free k p.settings.block w.time w.tickets (history_on found.job.side w) found.job piece (h.jobs.each found.place found.job at) i.forward o v)
 
 pub dump_keeps : (k : Known) (p : Workload) (w : State) (piece : KeyRange) (luck : Luck) (found : Found) → IsPiece (key_limit_of p.settings.block) piece → Sound p w → slice_get w.jobs found.place ≡ Some found.job → Sound p (dump_piece p.settings w piece luck found).state
 dump_keeps k p w piece luck found i h at = dump_tested_keeps k p w found piece luck (outside found.job.hand.map.ranges piece) (overlap (pieces_of found.job.hand.map.noted) piece) h at i refl refl
@@ -134,11 +134,11 @@ same_time n = omega arith
 
 cut_order : (k : Known) (p : Workload) (w : State) (place : ℕ) (job : Job) → Sound p w → slice_get w.jobs place ≡ Some job → job.hand.aborted ≡ false → job.hand.next ≤ w.time → w.tickets ≤ most_version → IsOrder p w place job (with_cut w job).hand (cut_name p.settings w job) (cut_bytes p.settings w job)
 cut_order k p w place job h at running n t =
-    let j = h.jobs place job at in
+    let j = h.jobs.each place job at in
     let block : is_block p.settings.block ≡ true = p.settings.block_listed in
-    let bound : w.time ≤ most_version = h.bound in
+    let bound : w.time ≤ most_version = h.clock.bound in
     let name : name_of (cut_name p.settings w job) ≡ Log job.hand.next (w.time + 1) w.tickets p.settings.block = named k (log_name job.hand w.time w.tickets p.settings.block) (log_spelled job.hand.next (w.time + 1) w.tickets p.settings.block (omega arith) (omega arith) t block) in
-    let honest = cut_honest k p.settings.block w.time job.hand.next job.hand.begin (history_on job.side w) job (cut_name p.settings w job) block bound (h.histories job.side).rising j.begun (j.logged running) in
+    let honest = cut_honest k p.settings.block w.time job.hand.next job.hand.begin (history_on job.side w) job (cut_name p.settings w job) block bound (h.databases.histories job.side).rising j.begun (j.logged running) in
     record {
       fresh = fresh_log (cut_name p.settings w job) w.tickets job.hand.next (w.time + 1) w.tickets p.settings.block name;
       good = λ files e. record {
@@ -160,17 +160,17 @@ cut_keeps k p w luck found h at running = go (nat_lt w.time found.job.hand.next)
 
 seal_order : (k : Known) (p : Workload) (w : State) (place : ℕ) (job : Job) → Sound p w → slice_get w.jobs place ≡ Some job → gap job.hand.map ≡ None → snapshot_bytes job ≤ 9223372036854775807 → w.tickets ≤ most_version → IsOrder p w place job (with_seal job).hand (seal_name w job) (manifest_text (manifest_of job.hand.map.noted))
 seal_order k p w place job h at g fits t =
-    let j = h.jobs place job at in
+    let j = h.jobs.each place job at in
     let m = manifest_of job.hand.map.noted in
     let tiled = tiles k job.hand.map.ranges job.hand.map.noted j.ranges.separate j.pieces j.inside g in
     let some = some_noted job.hand.map.ranges job.hand.map.noted j.some j.ranges.separate tiled in
-    let end : (manifest_of job.hand.map.noted).end ≤ most_version = k.manifests.end job.hand.map.noted most_version (All-weaker (IsNoted p.settings.block w.time w.tickets) (λ n. n.file.version ≤ most_version) job.hand.map.noted (λ n q. let v = q.past in let b = h.bound in omega arith) j.noted) in
+    let end : (manifest_of job.hand.map.noted).end ≤ most_version = k.manifests.end job.hand.map.noted most_version (All-weaker (IsNoted p.settings.block w.time w.tickets) (λ n. n.file.version ≤ most_version) job.hand.map.noted (λ n q. let v = q.past in let b = h.clock.bound in omega arith) j.noted) in
     let name : name_of (seal_name w job) ≡ name_for (manifest_of job.hand.map.noted) w.tickets = named k (manifest_name job.hand w.tickets) (manifest_spelled (manifest_of job.hand.map.noted).begin (manifest_of job.hand.map.noted).end (manifest_of job.hand.map.noted).bytes w.tickets (k.manifests.order job.hand.map.noted) end fits t) in
     record {
       fresh = fresh_manifest (seal_name w job) w.tickets (manifest_of job.hand.map.noted).begin (manifest_of job.hand.map.noted).end (manifest_of job.hand.map.noted).bytes w.tickets name;
       good = λ files e. record {
         honest = λ st. subst (IsHonestFile file_grammars (source_of p.settings.block w.time (history_on job.side w) job) st.honest.folder (seal_name w job) (manifest_text (manifest_of job.hand.map.noted))) (sym name)
-            (λ u. seal_honest k p.settings.block w.time w.tickets w.tickets (history_on job.side w) files job (seal_name w job) (h.stored files e).ordered j st g fits);
+            (λ u. seal_honest k p.settings.block w.time w.tickets w.tickets (history_on job.side w) files job (seal_name w job) (h.containers files e).ordered j st g fits);
         lists = λ names l. seal_lists k p.settings.block w.time w.tickets w.tickets (history_on job.side w) job j some fits names (sym (ap (λ (x : Name). listed_by file_grammars x (manifest_text (manifest_of job.hand.map.noted))) name) ∙ l);
       };
       after = sealed_sound p.settings.block w.time (w.tickets + 1) (history_on job.side w) job (job_grown p.settings.block w.time w.time w.tickets (w.tickets + 1) (history_on job.side w) (history_on job.side w) job (same_time w.time) (later_tickets w.tickets) j.logged j);
@@ -194,5 +194,5 @@ pub abort_keeps : (p : Workload) (w : State) (found : Found) → Sound p w → s
 abort_keeps p w found h at =
     sound_gone p (with_job found.place (with_abort found.job) w)
     (sound_changed p w found.place found.job (with_abort found.job).hand h at
-    (aborted_sound p.settings.block w.time w.tickets (history_on found.job.side w) found.job (h.jobs found.place found.job at))
-    (λ files e. let st = (h.stored files e).each found.place found.job at in record { honest = st.honest; there = st.there; listed = st.listed }))
+    (aborted_sound p.settings.block w.time w.tickets (history_on found.job.side w) found.job (h.jobs.each found.place found.job at))
+    (λ files e. let st = (h.containers files e).each found.place found.job at in record { honest = st.honest; there = st.there; listed = st.listed }))

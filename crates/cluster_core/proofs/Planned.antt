@@ -76,7 +76,7 @@ running_at tag w place job hand aborted e h a f = (job, newest_at tag w.jobs (re
 
 -- a piece of a side's database can be written
 piece_writable : (p : Workload) (w : State) (side : Side) (piece : KeyRange) → Sound p w → IsPiece (key_limit_of p.settings.block) piece → IsWritable p.settings.block piece.begin piece.end (pairs_at p.settings.block (history_on side w) w.time piece)
-piece_writable p w side piece h i = dump_writable known p.settings.block w.time (history_on side w) piece p.settings.block_listed (h.within side) i
+piece_writable p w side piece h i = dump_writable known p.settings.block w.time (history_on side w) piece p.settings.block_listed (h.databases.within side) i
 
 pub piece_written : (p : Workload) (w : State) (seen : Seen) (side : Side) (piece : KeyRange) (block : ℕ) (history : List Entry) (begin end : Bytes) (pairs : List Pair) → Sound p w → p ≡ seen.workload → w ≡ seen.state → IsPiece (key_limit_of seen.workload.settings.block) piece → block ≡ seen.workload.settings.block → history ≡ history_on side seen.state → pairs ≡ pairs_at block history w.time piece → begin ≡ piece.begin → end ≡ piece.end → IsWritable p.settings.block begin end pairs
 piece_written p w seen side piece block history begin end pairs h e f i b t q x y =
@@ -93,7 +93,7 @@ piece_written p w seen side piece block history begin end pairs h e f i b t q x 
 pub dump_begun : (p : Workload) (w : State) (seen : Seen) (place : ℕ) (job : Job) (hand : BackupJob) → Sound p w → w ≡ seen.state → slice_get seen.state.jobs place ≡ Some job → hand ≡ job.hand → hand.snapshot ≤ seen.state.time
 dump_begun p w seen place job hand h e at i =
     subst (λ (x : BackupJob). x.snapshot ≤ seen.state.time) (sym i)
-    (subst (λ (v : State). slice_get v.jobs place ≡ Some job → job.hand.snapshot ≤ v.time) e (λ a. (h.jobs place job a).snapshot) at)
+    (subst (λ (v : State). slice_get v.jobs place ≡ Some job → job.hand.snapshot ≤ v.time) e (λ a. (h.jobs.each place job a).snapshot) at)
 
 -- the file of a job that changes by it
 abbrev pub filing_of : ℕ → Job → Change → Bytes → Bytes → Filing

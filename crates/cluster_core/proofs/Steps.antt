@@ -55,15 +55,14 @@ use Rattle.cluster_core.proofs.Opens.{open_keeps}
 -- one client begins, and all else stands
 begun_keeps : (p : Workload) (w : State) (n : ℕ) (c : ClientState) (time : ℕ) → client_at w.clients n ≡ Some c → Sound p w → Sound p (record w { clients = put_client w.clients n (record c { begun = Some time }) })
 begun_keeps p w n c time at h = record {
-  bound = h.bound;
-  histories = λ side. h.histories side;
-  within = λ side. h.within side;
-  scripts_are = scripts_put w.clients n c (record c { begun = Some time }) at refl ∙ h.scripts_are;
-  clients = each_put (λ m d. IsClientSound w.src w.dst m d) w.clients n c (record c { begun = Some time }) at (let k = h.clients n c at in record { numbered = k.numbered; placed = k.placed; legal = k.legal; apart = k.apart }) (λ m d _ e. h.clients m d e);
-  tickets = h.tickets;
+  clock = h.clock;
+  databases = h.databases;
+  clients = record {
+    scripts_are = scripts_put w.clients n c (record c { begun = Some time }) at refl ∙ h.clients.scripts_are;
+    each = each_put (λ m d. IsClientSound w.src w.dst m d) w.clients n c (record c { begun = Some time }) at (let k = h.clients.each n c at in record { numbered = k.numbered; placed = k.placed; legal = k.legal; apart = k.apart }) (λ m d _ e. h.clients.each m d e);
+  };
   jobs = h.jobs;
-  apart = h.apart;
-  stored = λ files e. let t = h.stored files e in record { ordered = t.ordered; each = t.each };
+  containers = h.containers;
 }
 
 begin_keeps : (p : Workload) (w : State) (n : ℕ) (c : ClientState) (begun : Option ℕ) (ops : Option (List TxOp)) → client_at w.clients n ≡ Some c → Sound p w → Sound p (begin_with w n (begun_at w.time c begun ops)).state
@@ -234,45 +233,53 @@ grows_after block time pace (Some version) history who muts job q e = enters blo
 -- A try keeps what is sound, whatever version it took.
 ended_keeps : (k : Known) (p : Workload) (w : State) (n : ℕ) (c : ClientState) (ops : List TxOp) (outcome : Outcome) (o : Option ℕ) → client_at w.clients n ≡ Some c → next_ops c ≡ Some ops → outcome.place ≡ c.place + 1 → outcome.attempt ≡ 1 → version_of outcome.end ≡ o → IsNext w.time p.settings.pace o → IsTaking p.settings.block w.time p.settings.pace (logs_of c.script.side w.jobs) (writes_of ops) o → Sound p w → Sound p (ended c.script.side w n (after_try c outcome) o (who.Client c.script.number outcome.place) (writes_of ops))
 ended_keeps known p w n c ops outcome o at next place attempt end is_next taking h =
-    let k : IsClientSound w.src w.dst n c = h.clients n c at in
+    let k : IsClientSound w.src w.dst n c = h.clients.each n c at in
     let pace : 1 ≤ p.settings.pace = p.settings.pace_in_limits.0 in
     let by : Who = who.Client c.script.number outcome.place in
     let history : List Entry = history_after o (who.Client c.script.number outcome.place) (writes_of ops) (history_on c.script.side w) in
     let le : w.time ≤ time_after o w.time = later_time w.time p.settings.pace o is_next in
     record {
-      bound = bound_after w.time p.settings.pace o is_next h.bound;
-      histories = λ t. each_side (λ (xs : List Entry). IsOrdered (time_after o w.time) xs) c.script.side t w history (ordered_after w.time p.settings.pace o (history_on c.script.side w) (who.Client c.script.number outcome.place) (writes_of ops) pace is_next (h.histories c.script.side)) (λ u. later_ordered w.time p.settings.pace o (on_side u w.src w.dst) pace is_next (h.histories u));
-      within = λ t. each_side (AreWithin p.settings.block) c.script.side t w history (within_after p.settings.block w.time p.settings.pace (logs_of c.script.side w.jobs) o (history_on c.script.side w) (who.Client c.script.number outcome.place) (writes_of ops) taking (h.within c.script.side)) h.within;
-      scripts_are = scripts_put w.clients n c (after_try c outcome) at refl ∙ h.scripts_are;
-      clients = each_put (λ m d. IsClientSound (with_history c.script.side history w).src (with_history c.script.side history w).dst m d) w.clients n c (after_try c outcome) at
-          (record {
-            numbered = k.numbered;
-            placed = ap (λ (v : ℕ). v + 1) k.placed ∙ sym (length-append c.outcomes (outcome ∷ []));
-            legal = subst (λ (xs : List Entry). IsLegal n c.script.txns (c.outcomes ++ outcome ∷ []) xs) (sym (here c.script.side w history)) (more_legal n c.script.number c.script.txns c.outcomes (history_on c.script.side w) outcome ops o k.numbered (ap (slice_get c.script.txns) (sym k.placed) ∙ next) (place ∙ ap (λ (v : ℕ). v + 1) k.placed) attempt end k.legal);
-            apart = ap (entries_by n) (there c.script.side w history) ∙ k.apart;
-          })
-          (λ m d differ e.
-          let q : IsClientSound w.src w.dst m d = h.clients m d e in
-          let same : entries_by m history ≡ entries_by m (on_side c.script.side w.src w.dst) = other_entries m c.script.number outcome.place (writes_of ops) o (history_on c.script.side w) (λ f. differ (sym k.numbered ∙ f)) in
-          record {
-            numbered = q.numbered;
-            placed = q.placed;
-            legal = record { follow = q.legal.follow; entries = same_entries m c.script.side d.script.side w history same ∙ q.legal.entries };
-            apart = same_entries m c.script.side (other_side d.script.side) w history same ∙ q.apart;
-          });
-      tickets = with_history_tickets c.script.side history w h.tickets;
-      jobs = λ m x e.
-          let f : slice_get w.jobs m ≡ Some x = ap (λ (js : List Job). slice_get js m) (sym (with_history_jobs c.script.side history w)) ∙ e in
-          let j = h.jobs m x f in
-          subst (λ (t : ℕ). IsJobSound p.settings.block (time_after o w.time) t (on_side x.side (with_history c.script.side history w).src (with_history c.script.side history w).dst) x) (sym (with_history_next c.script.side history w))
-          (side_cases (λ (xs : List Entry). IsJobSound p.settings.block (time_after o w.time) w.tickets xs x) c.script.side x.side w history
-          (λ s. job_grown p.settings.block w.time (time_after o w.time) w.tickets w.tickets (history_on x.side w) history x le (same_number w.tickets)
-          (λ r. logged_after p.settings.block w.time p.settings.pace c.script.side w.jobs o (history_on c.script.side w) by (writes_of ops) m x taking f s r (subst (λ (t : Side). AreLoggable x.hand.map.ranges x.hand.begin (history_on t w)) (sym s) (j.logged r))) j)
-          (job_grown p.settings.block w.time (time_after o w.time) w.tickets w.tickets (history_on x.side w) (history_on x.side w) x le (same_number w.tickets) j.logged j));
-      apart = subst AreApart (sym (with_history_jobs c.script.side history w)) h.apart;
-      stored = λ files e.
+      clock = record {
+        bound = bound_after w.time p.settings.pace o is_next h.clock.bound;
+        tickets = with_history_tickets c.script.side history w h.clock.tickets;
+      };
+      databases = record {
+        histories = λ t. each_side (λ (xs : List Entry). IsOrdered (time_after o w.time) xs) c.script.side t w history (ordered_after w.time p.settings.pace o (history_on c.script.side w) (who.Client c.script.number outcome.place) (writes_of ops) pace is_next (h.databases.histories c.script.side)) (λ u. later_ordered w.time p.settings.pace o (on_side u w.src w.dst) pace is_next (h.databases.histories u));
+        within = λ t. each_side (AreWithin p.settings.block) c.script.side t w history (within_after p.settings.block w.time p.settings.pace (logs_of c.script.side w.jobs) o (history_on c.script.side w) (who.Client c.script.number outcome.place) (writes_of ops) taking (h.databases.within c.script.side)) h.databases.within;
+      };
+      clients = record {
+        scripts_are = scripts_put w.clients n c (after_try c outcome) at refl ∙ h.clients.scripts_are;
+        each = each_put (λ m d. IsClientSound (with_history c.script.side history w).src (with_history c.script.side history w).dst m d) w.clients n c (after_try c outcome) at
+            (record {
+              numbered = k.numbered;
+              placed = ap (λ (v : ℕ). v + 1) k.placed ∙ sym (length-append c.outcomes (outcome ∷ []));
+              legal = subst (λ (xs : List Entry). IsLegal n c.script.txns (c.outcomes ++ outcome ∷ []) xs) (sym (here c.script.side w history)) (more_legal n c.script.number c.script.txns c.outcomes (history_on c.script.side w) outcome ops o k.numbered (ap (slice_get c.script.txns) (sym k.placed) ∙ next) (place ∙ ap (λ (v : ℕ). v + 1) k.placed) attempt end k.legal);
+              apart = ap (entries_by n) (there c.script.side w history) ∙ k.apart;
+            })
+            (λ m d differ e.
+            let q : IsClientSound w.src w.dst m d = h.clients.each m d e in
+            let same : entries_by m history ≡ entries_by m (on_side c.script.side w.src w.dst) = other_entries m c.script.number outcome.place (writes_of ops) o (history_on c.script.side w) (λ f. differ (sym k.numbered ∙ f)) in
+            record {
+              numbered = q.numbered;
+              placed = q.placed;
+              legal = record { follow = q.legal.follow; entries = same_entries m c.script.side d.script.side w history same ∙ q.legal.entries };
+              apart = same_entries m c.script.side (other_side d.script.side) w history same ∙ q.apart;
+            });
+      };
+      jobs = record {
+        each = λ m x e.
+            let f : slice_get w.jobs m ≡ Some x = ap (λ (js : List Job). slice_get js m) (sym (with_history_jobs c.script.side history w)) ∙ e in
+            let j = h.jobs.each m x f in
+            subst (λ (t : ℕ). IsJobSound p.settings.block (time_after o w.time) t (on_side x.side (with_history c.script.side history w).src (with_history c.script.side history w).dst) x) (sym (with_history_next c.script.side history w))
+            (side_cases (λ (xs : List Entry). IsJobSound p.settings.block (time_after o w.time) w.tickets xs x) c.script.side x.side w history
+            (λ s. job_grown p.settings.block w.time (time_after o w.time) w.tickets w.tickets (history_on x.side w) history x le (same_number w.tickets)
+            (λ r. logged_after p.settings.block w.time p.settings.pace c.script.side w.jobs o (history_on c.script.side w) by (writes_of ops) m x taking f s r (subst (λ (t : Side). AreLoggable x.hand.map.ranges x.hand.begin (history_on t w)) (sym s) (j.logged r))) j)
+            (job_grown p.settings.block w.time (time_after o w.time) w.tickets w.tickets (history_on x.side w) (history_on x.side w) x le (same_number w.tickets) j.logged j));
+        apart = subst AreApart (sym (with_history_jobs c.script.side history w)) h.jobs.apart;
+      };
+      containers = λ files e.
           let g : w.files ≡ Some files = sym (with_history_files c.script.side history w) ∙ e in
-          let st = h.stored files g in
+          let st = h.containers files g in
           record {
             ordered = st.ordered;
             each = λ m x e.

@@ -33,7 +33,7 @@ use Rattle.cluster_core.specs.declared.refusal.Refusal.TheVariants.{Overlap, Not
 use Rattle.cluster_core.specs.Jobs.{Job, Found, newest, started_in, state_of_job}
 use Rattle.cluster_core.specs.State as machine
 use Rattle.cluster_core.specs.State.{history_on, with_job, with_put}
-use Rattle.cluster_core.specs.Moves.{Luck, Fine, FailsOld, FailsNew, Starved, Moved, moved}
+use Rattle.cluster_core.specs.Moves.{names_said, Luck, Moved, moved, asks, changes}
 
 -- The operator goes on to the next command.
 abbrev pub gone_on : machine.State → machine.State
@@ -79,11 +79,10 @@ open_over settings state tag side container ranges (name ∷ names) =
 -- The container's folder is listed, and has to be empty.
 abbrev pub open_listed : Settings → machine.State → Bytes → Side → Bytes → List KeyRange → Luck
     → Moved
-open_listed settings state tag side container ranges (Fine said) =
-    open_over settings state tag side container ranges (names_listed container state.files said)
-open_listed settings state tag side container ranges FailsOld = moved (Err VaultFault) state
-open_listed settings state tag side container ranges FailsNew = moved (Err VaultFault) state
-open_listed settings state tag side container ranges Starved = moved (Err NoMemory) state
+open_listed settings state tag side container ranges luck =
+    asks state luck
+    (λ said. open_over settings state tag side container ranges
+    (names_listed container state.files (names_said said)))
 
 abbrev pub open_untaken : Settings → machine.State → Bytes → Side → Bytes → List KeyRange → Luck
     → Option Job → Moved
@@ -105,17 +104,17 @@ open_job settings state tag side container ranges luck =
 
 -- ---- a put of a file
 
--- A file of the container is put. A failing put leaves the old files or the new ones, and the
--- operator stays at its command; once it is done the ticket is used up.
+-- the files of the state with a put
+abbrev pub files_put : machine.State → Bytes → Bytes → Option (List File)
+files_put state whole bytes = with_put whole bytes state.files
+
+-- A file of the container is put; once it is done the ticket is used up, and the operator goes on.
 abbrev pub puts : machine.State → Bytes → Bytes → machine.State → Luck → Moved
-puts state whole bytes after (Fine said) =
-    moved (Ok (Placed whole))
+puts state whole bytes after luck =
+    changes state (files_put state whole bytes) luck
+    (moved (Ok (Placed whole))
     (record (gone_on after)
-    { files = with_put whole bytes state.files; tickets = state.tickets + 1 })
-puts state whole bytes after FailsOld = moved (Err VaultFault) state
-puts state whole bytes after FailsNew =
-    moved (Err VaultFault) (record state { files = with_put whole bytes state.files })
-puts state whole bytes after Starved = moved (Err NoMemory) state
+    { files = files_put state whole bytes; tickets = state.tickets + 1 }))
 
 -- tickets go as far as versions
 abbrev pub putting : machine.State → Bytes → Bytes → machine.State → Luck → Moved

@@ -51,10 +51,6 @@ pub record IsClientSound (src dst : List Entry) (number : ℕ) (client : ClientS
   pub legal : IsLegal number client.script.txns client.outcomes (on_side client.script.side src dst)
   pub apart : entries_by number (on_side (other_side client.script.side) src dst) ≡ []
 
--- the scripts that the clients go through
-abbrev pub scripts_of : State → List ClientScript
-scripts_of state = map (λ client. client.script) state.clients
-
 -- ---- jobs
 
 -- what a job logs of each entry from a version on has fewer than 2^32 bytes
@@ -131,22 +127,65 @@ AreApart jobs =
     (a b : ℕ) (first second : Job) → slice_get jobs a ≡ Some first → slice_get jobs b ≡ Some second
     → is_same first.container second.container ≡ true → a ≡ b
 
--- What is kept of all jobs, over the files that the store tells.
-pub record AreStored (block : ℕ) (state : State) (files : List File) : Type 0 where
+-- ---- five parts, each over what it reads of the state
+
+-- Neither the newest version nor a ticket that was drawn is past the greatest number.
+pub record IsClockSound (time next_ticket : ℕ) : Type 0 where
+  pub bound : time ≤ most_version
+  pub tickets : next_ticket ≤ most_version + 1
+
+-- The histories of both sides are in order, and their mutations within the block's limits.
+pub record AreDatabasesSound (block time : ℕ) (src dst : List Entry) : Type 0 where
+  pub histories : (side : Side) → IsOrdered time (on_side side src dst)
+  pub within : (side : Side) → AreWithin block (on_side side src dst)
+
+-- The clients go through the workload's scripts, each as far as its outcomes and the histories say.
+pub record AreClientsSound (scripts : List ClientScript) (src dst : List Entry)
+    (clients : List ClientState) : Type 0 where
+  pub scripts_are : map (λ (client : ClientState). client.script) clients ≡ scripts
+  pub each : (number : ℕ) (client : ClientState) → client_at clients number ≡ Some client
+      → IsClientSound src dst number client
+
+-- what the facts on jobs and on their containers read of a state
+pub record View : Type 0 where
+  pub block : ℕ
+  pub now : ℕ
+  pub tickets : ℕ
+  pub src : List Entry
+  pub dst : List Entry
+  pub jobs : List Job
+
+abbrev pub view_of : ℕ → State → View
+view_of block state =
+    record {
+      block = block;
+      now = state.time;
+      tickets = state.tickets;
+      src = state.src;
+      dst = state.dst;
+      jobs = state.jobs;
+    }
+
+-- the history of the database that a job reads
+abbrev pub read_by : Job → View → List Entry
+read_by job view = on_side job.side view.src view.dst
+
+pub record AreJobsSound (view : View) : Type 0 where
+  pub each : (place : ℕ) (job : Job) → slice_get view.jobs place ≡ Some job
+      → IsJobSound view.block view.now view.tickets (read_by job view) job
+  pub apart : AreApart view.jobs
+
+-- What is kept of all containers of jobs, over the files that the store tells.
+pub record AreContainersSound (view : View) (files : List File) : Type 0 where
   pub ordered : AreFiles files
-  pub each : (place : ℕ) (job : Job) → slice_get state.jobs place ≡ Some job
-      → IsStored block state.time state.tickets (history_on job.side state) files job
+  pub each : (place : ℕ) (job : Job) → slice_get view.jobs place ≡ Some job
+      → IsStored view.block view.now view.tickets (read_by job view) files job
 
 pub record Sound (workload : Workload) (state : State) : Type 0 where
-  pub bound : state.time ≤ most_version
-  pub histories : (side : Side) → IsOrdered state.time (history_on side state)
-  pub within : (side : Side) → AreWithin workload.settings.block (history_on side state)
-  pub scripts_are : scripts_of state ≡ workload.clients
-  pub clients : (number : ℕ) (client : ClientState) → client_at state.clients number ≡ Some client
-      → IsClientSound state.src state.dst number client
-  pub tickets : state.tickets ≤ most_version + 1
-  pub jobs : (place : ℕ) (job : Job) → slice_get state.jobs place ≡ Some job
-      → IsJobSound workload.settings.block state.time state.tickets (history_on job.side state) job
-  pub apart : AreApart state.jobs
-  pub stored : (files : List File) → state.files ≡ Some files
-      → AreStored workload.settings.block state files
+  pub clock : IsClockSound state.time state.tickets
+  pub databases : AreDatabasesSound workload.settings.block state.time state.src state.dst
+  pub clients : AreClientsSound workload.clients state.src state.dst state.clients
+  pub jobs : AreJobsSound (view_of workload.settings.block state)
+  -- where the store tells its files
+  pub containers : (files : List File) → state.files ≡ Some files
+      → AreContainersSound (view_of workload.settings.block state) files

@@ -5,7 +5,7 @@ ghost use Rattle.fb_outside.specs.Faults.{Counts};
 ghost use Rattle.client_core.specs.Clients.{ClientState, new_client};
 ghost use Rattle.cluster_core.specs.Jobs as spec;
 ghost use Rattle.cluster_core.specs.State.{State, opening};
-ghost use Rattle.cluster_core.specs.Moves.{Fine, moved};
+ghost use Rattle.cluster_core.specs.Moves.{Fine, moved, Silent};
 ghost use Rattle.cluster_core.specs.Commands.{gone_on};
 ghost use Rattle.cluster_core.specs.Step.{Step, begin, commit, step};
 ghost use Rattle.cluster_core.specs.inner.Plans.{IsPlan, IsSafe};
@@ -321,7 +321,7 @@ impl<V: Vault> World<V> {
         requires plan { IsPlan self.old.workload self.old.state (Plan.Abort place) }
         requires safe { IsSafe self.old.state (Plan.Abort place) }
         requires room { self.old.state.place < length self.old.workload.operator }
-        ensures step { step self.old.workload self.old.state Event.Command (Fine [])
+        ensures step { step self.old.workload self.old.state Event.Command (Fine Silent)
             ≡ moved (Ok Answer.Done) self.new.state }
         ensures workload { self.new.workload ≡ self.old.workload }
         ensures calls { self.new.calls ≡ self.old.calls }

@@ -1,20 +1,6 @@
 -- The logs of jobs, in the order of the jobs' numbers.
-use Rattle.std.specs.Prelude.{
-  ℕ,
-  ◌<◌,
-  not,
-  List,
-  [],
-  ◌∷◌,
-  Option,
-  Some,
-  None,
-  nat_eq,
-  nat_le,
-  nat_lt,
-  if◌then◌else◌,
-}
-use Rattle.std.specs.List.{AllByRecursion, filter, position_or_len}
+use Rattle.std.specs.Prelude.{ℕ, not, List, [], ◌∷◌, Option, Some, None, nat_eq, nat_lt, if◌then◌else◌}
+use Rattle.std.specs.List.{filter}
 pub use Rattle.database.specs.declared.job_log.JobLog.{JobLog}
 
 -- the log of a job, where it logs

@@ -47,8 +47,8 @@ Says place script outcomes src dst = IsLegal (suc place) script.txns outcomes (o
 
 each_client : (p : Workload) (w : State) (place : ℕ) (script : ClientScript) (outcomes : List Outcome) → Sound p w → slice_get p.clients place ≡ Some script → slice_get (map (λ (client : ClientState). client.outcomes) w.clients) place ≡ Some outcomes → Says place script outcomes w.src w.dst
 each_client p w place script outcomes h s o =
-    let f : Found w.clients place script = find_client w.clients place script (ap (λ (xs : List ClientScript). slice_get xs place) h.scripts_are ∙ s) in
-    let k : IsClientSound w.src w.dst (suc place) f.client = h.clients (suc place) f.client f.at in
+    let f : Found w.clients place script = find_client w.clients place script (ap (λ (xs : List ClientScript). slice_get xs place) h.clients.scripts_are ∙ s) in
+    let k : IsClientSound w.src w.dst (suc place) f.client = h.clients.each (suc place) f.client f.at in
     let told : f.client.outcomes ≡ outcomes = outcomes_at w.clients place f.client outcomes f.at o in
     let P : ClientScript → List Outcome → Type 0 = λ x os. Says place x os w.src w.dst in
     subst (λ (os : List Outcome). P script os) told (subst (λ (x : ClientScript). P x f.client.outcomes) f.script_is (k.legal, k.apart))
@@ -56,8 +56,8 @@ each_client p w place script outcomes h s o =
 -- a report of a sound state has its histories right
 has_history : (workload : Workload) (w : State) (report : RunReport) → Sound workload w → report.src ≡ w.src → report.dst ≡ w.dst → report.outcomes ≡ map (λ (client : ClientState). client.outcomes) w.clients → report.end ≡ w.time → HasHistory workload report
 has_history workload w report h src dst outcomes end = record {
-  src = subst (λ (t : ℕ). IsOrdered t report.src) (sym end) (subst (λ (xs : List Entry). IsOrdered w.time xs) (sym src) (h.histories Src));
-  dst = subst (λ (t : ℕ). IsOrdered t report.dst) (sym end) (subst (λ (xs : List Entry). IsOrdered w.time xs) (sym dst) (h.histories Dst));
+  src = subst (λ (t : ℕ). IsOrdered t report.src) (sym end) (subst (λ (xs : List Entry). IsOrdered w.time xs) (sym src) (h.databases.histories Src));
+  dst = subst (λ (t : ℕ). IsOrdered t report.dst) (sym end) (subst (λ (xs : List Entry). IsOrdered w.time xs) (sym dst) (h.databases.histories Dst));
   clients = λ place script told s o.
       subst (λ (ys : List Entry). Says place script told report.src ys) (sym dst)
       (subst (λ (xs : List Entry). Says place script told xs w.dst) (sym src)

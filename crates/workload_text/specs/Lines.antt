@@ -1,29 +1,8 @@
 -- What a line says.
-use Rattle.std.specs.Prelude.{
-  ◌≡◌,
-  ℕ,
-  ◌+◌,
-  max,
-  true,
-  ◌&&◌,
-  ◌||◌,
-  List,
-  [],
-  ◌∷◌,
-  ◌++◌,
-  length,
-  Option,
-  Some,
-  None,
-  nat_eq,
-  codes,
-  slice_index,
-  if◌then◌else◌,
-}
+use Rattle.std.specs.Prelude.{ℕ, ◌+◌, max, ◌&&◌, ◌||◌, List, [], ◌∷◌, ◌++◌, length, Option, Some, None, nat_eq, codes, slice_index, if◌then◌else◌}
 use Rattle.std.specs.List.{list_all}
 use Rattle.std.specs.Result.{result_ok}
 use Rattle.atomic_ops.specs.Codes.{op_of_word}
-use Rattle.block_frame.specs.Profiles.{is_block}
 use Rattle.fb_bytes.specs.declared.KeyRange.{KeyRange}
 use Rattle.fb_bytes.specs.declared.RangeFault.{RangeFault}
 use Rattle.fb_bytes.specs.Bytes.{Bytes, is_same}
@@ -61,7 +40,7 @@ use Rattle.workload_text.specs.declared.line.Line.TheVariants.{
 }
 use Rattle.workload_text.specs.Kinds.{command_word}
 use Rattle.workload_text.specs.declared.command_kind.CommandKind.TheVariants as kinds
-use Rattle.workload_text.specs.Commands.{IsWithin, is_container_name}
+use Rattle.workload_text.specs.Commands.{is_container_name}
 use Rattle.workload_text.specs.Texts.{words_of, is_text_byte}
 
 -- ---- words

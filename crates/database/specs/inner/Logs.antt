@@ -1,20 +1,6 @@
 -- The order in which a database keeps the logs of jobs.
-use Rattle.std.specs.Prelude.{
-  ℕ,
-  ◌<◌,
-  not,
-  List,
-  [],
-  ◌∷◌,
-  Option,
-  Some,
-  None,
-  nat_eq,
-  nat_le,
-  nat_lt,
-  if◌then◌else◌,
-}
-use Rattle.std.specs.List.{AllByRecursion, filter, position_or_len}
+use Rattle.std.specs.Prelude.{ℕ, ◌<◌, List, [], ◌∷◌, nat_le}
+use Rattle.std.specs.List.{AllByRecursion, position_or_len}
 use Rattle.database.specs.declared.job_log.JobLog.{JobLog}
 
 -- the jobs' numbers rise, so no job logs twice

@@ -5,4 +5,4 @@ use Rattle.cluster_core.specs.Sound.{source_of}
 use Rattle.cluster_core.proofs.laws.faithful_law.Goals as goal
 
 pub returns : goal.returns
-returns c workload w files h told place job at = honest_store_law.faithful file_grammars (source_of workload.settings.block w.time (history_on job.side w) job) job.container files ((h.stored files told).each place job at).honest
+returns c workload w files h told place job at = honest_store_law.faithful file_grammars (source_of workload.settings.block w.time (history_on job.side w) job) job.container files ((h.containers files told).each place job at).honest

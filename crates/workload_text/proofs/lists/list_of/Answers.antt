@@ -1,7 +1,6 @@
-use Rattle.std.proofs.Common.{◌≡◌, ◌∷◌, List, sym, ap, ◌∙◌, Some}
+use Rattle.std.proofs.Common.{◌∷◌, List, sym, ap, ◌∙◌}
 use Rattle.fb_bytes.specs.Bytes.{Bytes}
 use Rattle.workload_text.specs.Texts.{words_of}
-use Rattle.workload_text.specs.Lines.{range_of}
 use Rattle.workload_text.proofs.Pairs.{one_pair}
 use Rattle.workload_text.proofs.lists.list_of.Goals as goal
 

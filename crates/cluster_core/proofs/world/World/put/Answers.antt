@@ -7,7 +7,7 @@ use Rattle.cluster_core.specs.declared.event.StepFault.TheVariants.{VaultFault, 
 use Rattle.cluster_core.specs.declared.plan.Plan.TheVariants as plans
 use Rattle.cluster_core.specs.inner.Filed.{changed}
 use Rattle.cluster_core.specs.Jobs.{Job}
-use Rattle.cluster_core.specs.Moves.{Fine, Starved, moved}
+use Rattle.cluster_core.specs.Moves.{Fine, Starved, moved, Silent}
 use Rattle.cluster_core.specs.Step.{step}
 use Rattle.cluster_core.specs.inner.Plans.{IsPlan, IsSafe}
 use Rattle.cluster_core.specs.State.{State, with_put}
@@ -47,8 +47,8 @@ returns-in-Ok-clause-step g c =
     let files = put_files c.args.filing.whole c.as_slice.result.now (g.V.Vault.files c.self.inside.vault) (g.V.Vault.files c.put.new.self) c.in-Ok.ensures.put c.put.ensures.silent ∙ ap (λ (b : Bytes). with_put c.args.filing.whole b (g.V.Vault.files c.self.inside.vault)) c.as_slice.ensures.same in
     let jobs : c.settle.new.jobs.items ≡ slice_set c.self.inside.jobs.items c.args.filing.place (changed c.args.filing.change safe.job) = filed c.self.inside.jobs.items c.go_ahead.new.jobs.items c.settle.new.jobs.items c.args.filing.place c.args.filing.change c.in_ok-snapshot.snapshot safe.job c.in_ok-snapshot.ensures.ok safe.at c.settle.ensures in
     let new : State = record old { jobs = c.settle.new.jobs.items; place = c.next_place-self-inside.result; tickets = c.self.inside.tickets + 1; files = g.V.Vault.files c.put.new.self } in (
-      Fine [],
-      subst (λ (seen : Seen). step seen.workload seen.state events.Command (Fine []) ≡ moved (Ok (answers.Placed c.args.filing.whole)) new) c.self.view_is
+      Fine Silent,
+      subst (λ (seen : Seen). step seen.workload seen.state events.Command (Fine Silent) ≡ moved (Ok (answers.Placed c.args.filing.whole)) new) c.self.view_is
           (put_done c.self.inside.workload old c.args.filing c.next_place-self-inside.result (g.V.Vault.files c.put.new.self) plan safe (c.next_place-self-inside.ensures room) files
           ∙ ap (λ (js : List Job). moved (Ok (answers.Placed c.args.filing.whole)) (record old { jobs = js; place = c.next_place-self-inside.result; tickets = c.self.inside.tickets + 1; files = g.V.Vault.files c.put.new.self })) (sym jobs)),
     )
