@@ -256,3 +256,25 @@ put_some key row (c ∷ cs) = by_test (is_below c.key key) (λ (xs : List Chain)
 
 pub put_filled : (key : Bytes) (row : Row) (place : ℕ) (chunks : List (List Chain)) (chunk : List Chain) → AreFilled chunks → AreFilled (slice_set chunks place (put_at key row chunk))
 put_filled key row place chunks chunk h = filled_set place chunks (put_at key row chunk) h (put_some key row chunk)
+
+-- ---- how many keys there are
+
+count_upto : (place : ℕ) (chunks : List (List Chain)) (chunk : List Chain) → slice_get chunks place ≡ Some chunk → length (joined (take (suc place) chunks)) ≡ length (joined (take place chunks)) + length chunk
+count_upto place [] chunk g = cc
+count_upto zero (x ∷ xs) chunk g =
+    let same : x ≡ chunk = cc in
+    let long = ap length same in
+    let first = ap (λ (ys : List (List Chain)). length (joined ys)) (take_none (x ∷ xs)) in
+    let behind = ap (λ (ys : List (List Chain)). length (joined ys)) (take_none xs) in
+    let both = length_both x (joined (take zero xs)) in
+    omega arith
+count_upto (suc place) (x ∷ xs) chunk g =
+    let rest = count_upto place xs chunk g in
+    let more = length_both x (joined (take (suc place) xs)) in
+    let less = length_both x (joined (take place xs)) in
+    omega arith
+
+pub count_next : (place : ℕ) (chunks : List (List Chain)) (chunk : List Chain) → slice_get chunks place ≡ Some chunk → length (joined (take (place + 1) chunks)) ≡ length (joined (take place chunks)) + length chunk
+count_next place chunks chunk g =
+    let next : suc place ≡ place + 1 = omega arith in
+    subst (λ i. length (joined (take i chunks)) ≡ length (joined (take place chunks)) + length chunk) next (count_upto place chunks chunk g)

@@ -12,4 +12,5 @@ mod Operations
 mod Scans
 mod Joined
 mod Everywhere
+mod Touches
 mod Pages

@@ -95,7 +95,7 @@ insert_here key row chains place e f = ap (λ i. insert chains i (record { key =
 
 -- ---- what the keys have then
 
-rows_put : (key : Bytes) (row : Row) (chains : List Chain) (k : Bytes) → AreChains chains → rows_of (put_at key row chains) k ≡ cond (is_same key k) (put_row row (rows_of chains k)) (rows_of chains k)
+pub rows_put : (key : Bytes) (row : Row) (chains : List Chain) (k : Bytes) → AreChains chains → rows_of (put_at key row chains) k ≡ cond (is_same key k) (put_row row (rows_of chains k)) (rows_of chains k)
 rows_put key row [] k h = by_test (is_same key k) (λ (rs : List Row). cond (is_same key k) (row ∷ []) [] ≡ cond (is_same key k) (row ∷ []) []) [] [] (λ e. refl) (λ e. refl)
 rows_put key row (c ∷ cs) k h = step (is_below c.key key) refl (is_same c.key k) refl (is_same key k) refl (rows_put key row cs k h.3)
   where

@@ -1,6 +1,7 @@
 pub mod Chains
 pub mod Applied
 pub mod Edits
+pub mod Touched
 pub mod Chunks
 pub mod Digits
 pub mod Sound

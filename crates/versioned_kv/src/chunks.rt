@@ -1,6 +1,6 @@
 //! Keys with their rows in chunks, so that a new key moves the keys of its own chunk alone.
 
-ghost use Rattle.std.specs.Prelude.{◌≡◌, ℕ, suc, ◌+◌, ◌*◌, ◌<◌, ◌≤◌, ◌^◌, List, [], length, slice_get, slice_set, Some, IfOk, OnOk, OnErr};
+ghost use Rattle.std.specs.Prelude.{◌≡◌, ℕ, suc, ◌+◌, ◌-◌, ◌*◌, ◌<◌, ◌≤◌, ◌^◌, min, List, [], length, slice_get, slice_set, Some, IfOk, OnOk, OnErr};
 ghost use Rattle.std.specs.Option.{option_copied};
 ghost use Rattle.versioned_kv.specs.declared.chain.Chain.{Chain};
 ghost use Rattle.versioned_kv.specs.Chains.{AreChains, rows_of, value_at};
@@ -61,6 +61,33 @@ pub fn value<'a, L: Ledger>(
     }
     let place = chunk_of(chunks, key, steps);
     chunks[place].value(key, version, steps)
+}
+
+/// How many keys there are, or the greatest `usize` where there are more.
+pub fn count(chunks: &[Table<Chain>]) -> usize
+    ensures { result ≡ min (length (joined chunks.now)) (2 ^ 64 - 1) }
+{
+    let mut keys = 0usize;
+    for chunk in chunks {
+        keys = keys.saturating_add(chunk.len());
+    }
+    keys
+}
+
+/// How many rows a key has.
+pub fn count_of<L: Ledger>(chunks: &[Table<Chain>], key: &[u8], steps: &mut Steps<L>) -> usize
+    requires chains { AreChains (joined chunks.now) }
+    requires filled { AreFilled chunks.now }
+    ensures { result ≡ length (rows_of (joined chunks.now) key.now) }
+{
+    if chunks.is_empty() {
+        return 0;
+    }
+    let place = chunk_of(chunks, key, steps);
+    match chunks[place].rows(key, steps) {
+        Some(rows) => rows.len(),
+        None => 0,
+    }
 }
 
 /// Puts a row at the end of the rows of a key.

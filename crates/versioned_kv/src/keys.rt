@@ -1,10 +1,11 @@
-ghost use Rattle.std.specs.Prelude.{◌≡◌, ℕ, ◌+◌, ◌*◌, ◌<◌, ◌≤◌, ◌^◌, [], length, IfOk, OnOk, None, if◌then◌else◌};
+ghost use Rattle.std.specs.Prelude.{◌≡◌, ℕ, ◌+◌, ◌-◌, ◌*◌, ◌<◌, ◌≤◌, ◌^◌, min, [], length, IfOk, OnOk, None, if◌then◌else◌};
 ghost use Rattle.std.specs.Option.{option_copied};
 ghost use Rattle.fb_bytes.specs.Bytes.{Bytes, is_same};
 ghost use Rattle.fb_bytes.specs.Keys.{holds};
 ghost use Rattle.mutations.specs.Effects.{range_of};
 ghost use Rattle.versioned_kv.specs.Chains.{AreChains, rows_of, value_at};
 ghost use Rattle.versioned_kv.specs.Edits.{AreUpto, without, Extends};
+ghost use Rattle.versioned_kv.specs.Touched.{RowsStay, has_value_in};
 ghost use Rattle.versioned_kv.specs.Forgotten.{all_forgotten};
 ghost use Rattle.versioned_kv.specs.Pages.{IsPage};
 
@@ -48,6 +49,21 @@ impl Keys {
         *self.chunks.allocator()
     }
 
+    /// How many keys there are, or the greatest `usize` where there are more.
+    pub fn count(&self) -> usize
+        ensures { result ≡ min (length self.now) (2 ^ 64 - 1) }
+    {
+        chunks::count(&self.chunks)
+    }
+
+    /// How many rows a key has.
+    pub fn count_of<L: Ledger>(&self, key: &[u8], steps: &mut Steps<L>) -> usize
+        requires { AreChains self.now }
+        ensures { result ≡ length (rows_of self.now key.now) }
+    {
+        chunks::count_of(&self.chunks, key, steps)
+    }
+
     /// What a version left at a key.
     pub fn value<L: Ledger>(&self, key: &[u8], version: u64, steps: &mut Steps<L>) -> Option<&Blob>
         requires { AreChains self.now }
@@ -68,6 +84,7 @@ impl Keys {
         requires chains { AreChains self.old }
         requires upto { AreUpto row.version self.old }
         ensures extends { Extends row.version self.old self.new }
+        ensures others { RowsStay (is_same key.now) self.old self.new }
         ensures ok { OnOk result ((at : Bytes) → value_at self.new at row.version
             ≡ (if is_same key.now at then row.value else value_at self.old at row.version)) }
     {
@@ -85,6 +102,8 @@ impl Keys {
         requires chains { AreChains self.old }
         requires upto { AreUpto version self.old }
         ensures extends { Extends version self.old self.new }
+        ensures others
+            { RowsStay (has_value_in (range_of begin.now end.now) version self.old) self.old self.new }
         ensures ok { OnOk result ((key : Bytes) → value_at self.new key version
             ≡ (if holds (range_of begin.now end.now) key then None
             else value_at self.old key version)) }

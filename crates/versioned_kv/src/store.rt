@@ -1,10 +1,11 @@
-ghost use Rattle.std.specs.Prelude.{◌≡◌, ℕ, ◌+◌, ◌*◌, ◌<◌, ◌≤◌, max, List, [], ◌∷◌, ◌++◌, length, IsTrue, ◌↔◌, IfOk, OnOk, OnErr};
+ghost use Rattle.std.specs.Prelude.{◌≡◌, ℕ, ◌+◌, ◌-◌, ◌*◌, ◌<◌, ◌≤◌, ◌^◌, min, max, List, [], ◌∷◌, ◌++◌, length, IsTrue, ◌↔◌, IfOk, OnOk, OnErr};
 ghost use Rattle.std.specs.Option.{option_copied};
 ghost use Rattle.mutations.specs.declared.batch.Batch.{Batch};
 ghost use Rattle.fb_bytes.specs.Bytes.{Bytes};
 ghost use Rattle.mutations.specs.Effects.{effects};
 ghost use Rattle.versioned_kv.specs.Chains.{AreChains, rows_of, value_at};
 ghost use Rattle.versioned_kv.specs.Edits.{AreUpto, Extends, without};
+ghost use Rattle.versioned_kv.specs.Touched.{touched, RowsStay, WritesAt};
 ghost use Rattle.versioned_kv.specs.Forgotten.{all_forgotten};
 ghost use Rattle.versioned_kv.specs.Applied.{Holds, IsPast, IsRetractable, StandsWith, applied_at, with_entry};
 ghost use Rattle.versioned_kv.specs.Sound.{AreVersions};
@@ -62,6 +63,20 @@ impl Store {
         self.oldest
     }
 
+    /// How many keys there are, or the greatest `usize` where there are more.
+    pub fn keys(&self) -> usize
+        ensures { result ≡ min (length self.now.chains) (2 ^ 64 - 1) }
+    {
+        self.chains.count()
+    }
+
+    /// How many versions left something at a key, of those that aren't forgotten.
+    pub fn rows_of(&self, key: &[u8]) -> usize
+        ensures { result ≡ length (rows_of self.now.chains key.now) }
+    {
+        count_of(&self.chains, key)
+    }
+
     /// Whether a version is past all that were applied, so that it may be applied next.
     pub fn is_past(&self, version: u64) -> bool
         ensures { IsTrue result ↔ IsPast version self.now.versions }
@@ -110,6 +125,8 @@ impl Store {
         ensures same { OnOk result
             (StandsWith self.old (self.old.versions ++ version ∷ []) self.new) }
         ensures rows { OnOk result (without version self.new.chains ≡ self.old.chains) }
+        ensures written
+            { OnOk result (WritesAt (touched mutations.now) self.old.chains self.new.chains) }
         ensures err { OnErr result (self.new ≡ self.old) }
     {
         self.versions.push(version)?;
@@ -160,6 +177,25 @@ fn is_past(versions: &[u64], version: u64) -> bool
     }
 }
 
+/// How many rows a key has.
+fn count_of(chains: &Keys, key: &[u8]) -> usize
+    requires { AreChains chains.now }
+    ensures { result ≡ length (rows_of chains.now key.now) }
+{
+    count_of_counted::<Brand>(chains, key, Blank::new(1))
+}
+
+fn count_of_counted<L: Ledger>(chains: &Keys, key: &[u8], blank: Blank) -> usize
+    requires name { blank.name ≡ L.name }
+    requires parts { blank.parts ≡ L.parts }
+    requires some { 0 < blank.parts }
+    requires chains { AreChains chains.now }
+    ensures { result ≡ length (rows_of chains.now key.now) }
+{
+    let mut steps = Steps::<L>::new(blank);
+    chains.count_of(key, &mut steps)
+}
+
 /// Writes what mutations leave. Without memory some may be left out.
 fn write(
     chains: &mut Keys,
@@ -170,6 +206,7 @@ fn write(
     requires chains { AreChains chains.old }
     requires upto { AreUpto version chains.old }
     ensures extends { Extends version chains.old chains.new }
+    ensures others { OnOk result (RowsStay (touched mutations.now) chains.old chains.new) }
     ensures ok { OnOk result ((key : Bytes) → value_at chains.new key version
         ≡ effects limit mutations.now key (value_at chains.old key version)) }
 {
@@ -189,6 +226,7 @@ fn write_counted<L: Ledger>(
     requires chains { AreChains chains.old }
     requires upto { AreUpto version chains.old }
     ensures extends { Extends version chains.old chains.new }
+    ensures others { OnOk result (RowsStay (touched mutations.now) chains.old chains.new) }
     ensures ok { OnOk result ((key : Bytes) → value_at chains.new key version
         ≡ effects limit mutations.now key (value_at chains.old key version)) }
 {

@@ -3,9 +3,10 @@
 ghost use Rattle.std.specs.Prelude.{◌≡◌, IfOk, OnOk};
 ghost use Rattle.fb_bytes.specs.Bytes.{Bytes};
 ghost use Rattle.atomic_ops.specs.Operation.{operation, bytes_left};
-ghost use Rattle.mutations.specs.Effects.{effect, effects};
+ghost use Rattle.mutations.specs.Effects.{effect, effects, touches_key};
 ghost use Rattle.versioned_kv.specs.Chains.{AreChains, value_at};
 ghost use Rattle.versioned_kv.specs.Edits.{AreUpto, Extends};
+ghost use Rattle.versioned_kv.specs.Touched.{touched, RowsStay};
 
 use crate::Steps;
 use crate::chain::Row;
@@ -27,6 +28,7 @@ pub fn write_all<L: Ledger>(
     requires chains { AreChains chains.old }
     requires upto { AreUpto version chains.old }
     ensures extends { Extends version chains.old chains.new }
+    ensures others { OnOk result (RowsStay (touched mutations.now) chains.old chains.new) }
     ensures ok { OnOk result ((key : Bytes) → value_at chains.new key version
         ≡ effects limit mutations.now key (value_at chains.old key version)) }
 {
@@ -46,6 +48,7 @@ fn write_one<L: Ledger>(
     requires chains { AreChains chains.old }
     requires upto { AreUpto version chains.old }
     ensures extends { Extends version chains.old chains.new }
+    ensures others { OnOk result (RowsStay (touches_key mutation.now) chains.old chains.new) }
     ensures ok { OnOk result ((key : Bytes) → value_at chains.new key version
         ≡ effect limit mutation.now key (value_at chains.old key version)) }
 {

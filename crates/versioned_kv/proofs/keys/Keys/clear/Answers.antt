@@ -5,6 +5,7 @@ use Rattle.versioned_kv.specs.Chunks.{joined}
 use Rattle.versioned_kv.specs.Edits.{all_cleared, IsClearedUpto}
 use Rattle.versioned_kv.proofs.Places.{on_ok}
 use Rattle.versioned_kv.proofs.Everywhere.{part_extends, all_value}
+use Rattle.versioned_kv.proofs.Touches.{clear_stays}
 use Rattle.versioned_kv.proofs.keys.Keys.clear.Goals as goal
 
 pub returns-clause-extends : goal.returns-clause-extends
@@ -18,3 +19,8 @@ returns-clause-ok g c =
     on_ok c.clear.result
     (λ e key. all_value range c.args.version c.args.self.now (joined c.clear.new.chunks.items) key c.requires.chains (e ∙ ap (all_cleared range c.args.version) c.self.view_is))
     c.clear.ensures.ok
+
+pub returns-clause-others : goal.returns-clause-others
+returns-clause-others g c =
+    let range = range_of c.args.begin.now c.args.end.now in
+    clear_stays range c.args.version c.args.self.now (joined c.clear.new.chunks.items) (subst (λ (x : List Chain). IsClearedUpto range c.args.version x (joined c.clear.new.chunks.items)) c.self.view_is c.clear.ensures.part)

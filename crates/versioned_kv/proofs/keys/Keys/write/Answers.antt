@@ -1,8 +1,11 @@
-use Rattle.std.proofs.Common.{List, sym, ap, ◌∙◌, subst}
+use Rattle.std.proofs.Common.{List, refl, sym, ap, ◌∙◌, subst}
 use Rattle.versioned_kv.specs.Chains.{Chain, AreChains, value_at}
 use Rattle.versioned_kv.specs.Chunks.{joined}
 use Rattle.versioned_kv.specs.Edits.{AreUpto, put_at, Extends}
 use Rattle.versioned_kv.proofs.Places.{on_ok}
+use Rattle.fb_bytes.specs.Bytes.{is_same}
+use Rattle.versioned_kv.specs.Touched.{RowsStay}
+use Rattle.versioned_kv.proofs.Touches.{put_stays}
 use Rattle.versioned_kv.proofs.Puts.{put_extends, value_put, same_extends, either}
 use Rattle.versioned_kv.proofs.keys.Keys.write.Goals as goal
 
@@ -24,3 +27,13 @@ returns-clause-ok g c =
     on_ok c.put.result
     (λ e at. ap (λ (x : List Chain). value_at x at c.args.row.version) (e ∙ ap (put_at c.args.key.now c.args.row) c.self.view_is) ∙ value_put c.args.key.now c.args.row c.args.self.now at c.requires.chains)
     c.put.ensures.ok
+
+pub returns-clause-others : goal.returns-clause-others
+returns-clause-others g c =
+    let old = joined c.self.inside.chunks.items in
+    let chains : AreChains old = subst AreChains (sym c.self.view_is) c.requires.chains in
+    subst (λ (x : List Chain). RowsStay (is_same c.args.key.now) x (joined c.put.new.chunks.items)) c.self.view_is
+    (either c.put.result (RowsStay (is_same c.args.key.now) old (joined c.put.new.chunks.items))
+    (λ e. subst (RowsStay (is_same c.args.key.now) old) (sym e) (put_stays c.args.key.now c.args.row old chains))
+    (λ e. subst (RowsStay (is_same c.args.key.now) old) (sym e) (λ key h. refl))
+    c.put.ensures.ok c.put.ensures.err)

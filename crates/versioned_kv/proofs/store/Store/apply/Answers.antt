@@ -4,6 +4,8 @@ use Rattle.mutations.specs.Effects.{effects}
 use Rattle.versioned_kv.specs.Chains.{Chain, value_at}
 use Rattle.versioned_kv.specs.Sound.{IsSound}
 use Rattle.versioned_kv.specs.Applied.{Contents, Holds, IsPast, with_entry}
+use Rattle.versioned_kv.specs.Touched.{touched, RowsStay, WritesAt}
+use Rattle.versioned_kv.proofs.Touches.{writes_at}
 use Rattle.versioned_kv.proofs.Holding.{pop_back, upto_past, cut_back, sound_more, holds_more}
 use Rattle.versioned_kv.proofs.store.Store.apply.Goals as goal
 
@@ -46,3 +48,11 @@ returns-in-Ok-clause-rows c =
     let s = c.self.inside in
     let past = subst (λ (x : Contents). IsPast c.args.version x.versions) (sym c.self.view_is) c.requires in
     cut_back c.args.version s.versions.items s.chains c.write.new.chains c.self.invariant.in_order past c.self.invariant.known c.write.ensures.extends ∙ ap (λ (x : Contents). x.chains) c.self.view_is
+
+pub returns-in-Ok-clause-written : goal.returns-in-Ok-clause-written
+returns-in-Ok-clause-written c =
+    let s = c.self.inside in
+    let past = subst (λ (x : Contents). IsPast c.args.version x.versions) (sym c.self.view_is) c.requires in
+    let stay : RowsStay (touched c.args.mutations.now) s.chains c.write.new.chains = subst (λ (muts : List Mutation). RowsStay (touched muts) s.chains c.write.new.chains) c.as_slice.ensures c.in-Ok.ensures.others in
+    subst (λ (x : Contents). WritesAt (touched c.args.mutations.now) x.chains c.write.new.chains) c.self.view_is
+    (writes_at c.args.version s.versions.items s.chains c.write.new.chains (touched c.args.mutations.now) c.self.invariant.in_order past c.self.invariant.known c.write.ensures.extends stay)
