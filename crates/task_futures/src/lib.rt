@@ -4,6 +4,7 @@
 mod future;
 mod futures;
 mod laws;
+mod links;
 mod list_futures;
 mod part;
 mod settling;
