@@ -10,7 +10,7 @@ use Rattle.task_futures.specs.Changes.{is_lesser, lesser_count, cleared}
 
 -- ---- halving
 
-past_at : (u : ℕ) (fs : List SeenFuture) (j : ℕ) (d : SeenFuture) → ArePast u fs → j < length fs → u < (get_or fs j d).number
+pub past_at : (u : ℕ) (fs : List SeenFuture) (j : ℕ) (d : SeenFuture) → ArePast u fs → j < length fs → u < (get_or fs j d).number
 past_at u [] j d p lt = absurd (omega arith)
 past_at u (f ∷ fs) zero d p lt = p.0
 past_at u (f ∷ fs) (suc j) d p lt = past_at u fs j d p.1 (omega arith)

@@ -3,3 +3,4 @@ pub mod Falling
 pub mod Linking
 pub mod Keeping
 pub mod Joining
+pub mod Nearing

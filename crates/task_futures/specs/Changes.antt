@@ -1,11 +1,16 @@
 -- The changes of one future, as the list of futures makes them.
 use Rattle.std.specs.Prelude.{
+  ◌≡◌,
   ℕ,
   ◌-◌,
+  ◌<◌,
+  ◌≤◌,
   Bool,
+  false,
   not,
   nat_lt,
   ◌&&◌,
+  ◌||◌,
   ◌==◌,
   List,
   [],
@@ -13,7 +18,12 @@ use Rattle.std.specs.Prelude.{
   ◌++◌,
   length,
   take,
+  drop,
   map,
+  min,
+  Option,
+  Some,
+  None,
   if◌then◌else◌,
 }
 use Rattle.std.specs.List.{filter, prefix_len}
@@ -86,3 +96,38 @@ is_lesser number f = nat_lt f.number number
 -- how many at the front have lesser numbers
 abbrev pub lesser_count : ℕ → List SeenFuture → ℕ
 lesser_count number fs = prefix_len (is_lesser number) fs
+
+-- ---- the next future of which a block falls
+
+-- the lesser of the numbers from a bound on, of the one so far and of a part's
+abbrev pub nearer : ℕ → Option ℕ → ℕ → Option ℕ
+nearer bound None join = if nat_lt join bound then None else Some join
+nearer bound (Some n) join = if nat_lt join bound then Some n else Some (min n join)
+
+abbrev pub nearest_onto : ℕ → Option ℕ → List Part → Option ℕ
+nearest_onto bound o [] = o
+nearest_onto bound o (p ∷ ps) = nearest_onto bound (nearer bound o p.join) ps
+
+-- the least number of these parts from a bound on
+abbrev pub nearest : ℕ → List Part → Option ℕ
+nearest bound ps = nearest_onto bound None ps
+
+-- no block of these futures falls
+abbrev pub is_number_of : ℕ → List Part → Bool
+is_number_of number [] = false
+is_number_of number (p ∷ ps) = p.join == number || is_number_of number ps
+
+abbrev pub AreSpared : List Part → List SeenFuture → Type 0
+AreSpared ps [] = Unit {0}
+AreSpared ps (f ∷ fs) = (is_number_of f.number ps ≡ false) × AreSpared ps fs
+
+-- the place of the next future of which a block may fall; those from the first on and before it
+-- are spared, and without a place all are
+pub record IsNextPlace (ps : List Part) (first : ℕ) (fs : List SeenFuture) (next : ℕ) : Type 0 where
+  pub behind : first ≤ next
+  pub within : next < length fs
+  pub spared : AreSpared ps (take (next - first) (drop first fs))
+
+abbrev pub IsNext : List Part → ℕ → List SeenFuture → Option ℕ → Type 0
+IsNext ps first fs None = AreSpared ps (drop first fs)
+IsNext ps first fs (Some next) = IsNextPlace ps first fs next

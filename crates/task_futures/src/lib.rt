@@ -1,6 +1,7 @@
 //! Futures: what is to be done once the last of some tasks is closed.
 #![tactic(auto)]
 
+mod due;
 mod future;
 mod futures;
 mod laws;

@@ -1,8 +1,9 @@
 ghost use Rattle.std.specs.Prelude.{◌≡◌, ◌++◌, ◌≤◌, ◌^◌, ◌+◌, ◌==◌, not, [], ◌∷◌, List, IfOk, OnOk, OnErr, if◌then◌else◌};
 ghost use Rattle.std.specs.List.{filter};
 ghost use Rattle.task_futures.specs.Laws.{AreRising};
-ghost use Rattle.task_futures.specs.Futures.{next_number, newly_set, settle, without_newest, join_blocks, joined};
+ghost use Rattle.task_futures.specs.Futures.{next_number, without_newest, join_blocks, joined};
 
+use crate::due::due_in;
 use crate::future::{Future, below_limit};
 use crate::links::{link_each, unlink_each};
 use crate::settling::{greatest, is_open, place_of, unblock, unlink_all};
@@ -53,18 +54,6 @@ fn keep_others(futures: &mut Vec<Future>, number: u64)
     ensures { futures.new.items ≡ filter (λ f. not (f.number == number)) futures.old.items }
 {
     futures.retain(|one| one.number() != number);
-}
-
-fn due_in(alloc: Global, futures: &[Future], part: Part) -> Result<Tasks, AllocError>
-    ensures { IfOk result
-        (λ tasks. tasks ≡ newly_set futures.now (settle (part ∷ []) futures.now)) }
-{
-    let mut pending = vec![in alloc; part]?;
-    let mut due = Tasks::new(alloc);
-    for one in futures {
-        one.fall(&mut pending, &mut due)?;
-    }
-    Ok(due)
 }
 
 fn blocks_for(alloc: Global, futures: &[Future], parts: &[u64]) -> Result<Vec<u64>, AllocError>
