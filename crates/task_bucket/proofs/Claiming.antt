@@ -141,7 +141,7 @@ lists_put one hs r = lists_same _ _ _ _ (slots_put one hs r) (leases_put one hs 
 
 -- ---- what a claim may take
 
-none_free : (hs : List Held) → is_idle hs ≡ true → slots_in hs ≡ []
+pub none_free : (hs : List Held) → is_idle hs ≡ true → slots_in hs ≡ []
 none_free [] e = refl
 none_free (h ∷ hs) e = go h.until e (none_free hs)
   where
@@ -149,7 +149,7 @@ none_free (h ∷ hs) e = go h.until e (none_free hs)
     go None e ih = absurd cc
     go (Some w) e ih = ih e
 
-candidates_free : (now : ℕ) (hs : List Held) → candidates now false hs ≡ slots_in hs
+pub candidates_free : (now : ℕ) (hs : List Held) → candidates now false hs ≡ slots_in hs
 candidates_free now [] = refl
 candidates_free now (h ∷ hs) = go h.until (candidates_free now hs)
   where
@@ -165,18 +165,18 @@ candidates_due now (h ∷ hs) e = go h.until e (candidates_due now hs)
     go None e ih = absurd cc
     go (Some w) e ih = ap (λ (ss : List Slot). cond (leb w now) (slot_in h ∷ ss) ss) (ih e)
 
+pub some_slots : (hs : List Held) → is_idle hs ≡ false → slots_in hs ≡ [] → ⊥
+some_slots [] e = absurd cc
+some_slots (h ∷ hs) e = step h.until e (some_slots hs)
+  where
+    step : (v : Option ℕ) → cond (is_free v) false (is_idle hs) ≡ false → (is_idle hs ≡ false → slots_in hs ≡ [] → ⊥) → slot_before v (slot_in h) (slots_in hs) ≡ [] → ⊥
+    step None e ih f = cc
+    step (Some w) e ih f = ih e f
+
 -- Where one is available, nothing goes back.
 some_free : (now : ℕ) (hs : List Held) → is_idle hs ≡ false → returned now (lists_in hs) ≡ lists_in hs
-some_free now hs e = go (slots_in hs) (nonempty hs e)
+some_free now hs e = go (slots_in hs) (some_slots hs e)
   where
-    nonempty : (hs : List Held) → is_idle hs ≡ false → slots_in hs ≡ [] → ⊥
-    nonempty [] e = absurd cc
-    nonempty (h ∷ hs) e = step h.until e (nonempty hs)
-      where
-        step : (v : Option ℕ) → cond (is_free v) false (is_idle hs) ≡ false → (is_idle hs ≡ false → slots_in hs ≡ [] → ⊥) → slot_before v (slot_in h) (slots_in hs) ≡ [] → ⊥
-        step None e ih f = cc
-        step (Some w) e ih f = ih e f
-
     go : (ss : List Slot) → (ss ≡ [] → ⊥) → returned_to now ss (leases_in hs) ≡ record { available = ss; leased = leases_in hs }
     go [] f = absurd (f refl)
     go (s ∷ ss) f = refl
@@ -238,8 +238,13 @@ gone_if now old new r is = go (is_idle old) refl is
     go true e is = gone_back now old new r e is
     go false e is = record { lists = ap lists_in is ∙ sym (some_free now old e); rising = subst AreRising (sym is) r }
 
-pub gone_none : (now : ℕ) (old : List Held) → AreRising old → is_idle old ≡ false → GoneBack now old old
-gone_none now old r e = record { lists = sym (some_free now old e); rising = r }
+-- by the one that a claim takes
+pub gone_by : (now : ℕ) (old new : List Held) (free its : Bool) → AreRising old → free ≡ its → its ≡ not (is_idle old) → new ≡ cond (not free) (map (woken now) old) old → GoneBack now old new
+gone_by now old new free its r is agrees made = gone_if now old new r (made ∙ ap (λ (b : Bool). cond b (map (woken now) old) old) (ap not (is ∙ agrees) ∙ twice (is_idle old)))
+  where
+    twice : (b : Bool) → not (not b) ≡ b
+    twice true = refl
+    twice false = refl
 
 -- ---- what is leased
 

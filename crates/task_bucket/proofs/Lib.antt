@@ -1,5 +1,5 @@
 pub mod Finding
-pub mod Parts
 pub mod Picks
 pub mod Views
 pub mod Claiming
+pub mod Walks

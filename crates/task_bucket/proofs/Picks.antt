@@ -6,7 +6,7 @@ use Rattle.fb_bytes.specs.Options.{IsIn, better_of, best_of}
 use Rattle.task_bucket.specs.declared.held.Held.{Held}
 use Rattle.task_bucket.specs.Lists.{Slot}
 use Rattle.task_bucket.specs.Claims.{has_greater_uid, has_lesser_uid, is_at_or_below, or_least, picked}
-use Rattle.task_bucket.specs.Held.{slot_in, ArePast, AreRising, candidate, candidates, step_of}
+use Rattle.task_bucket.specs.Held.{slot_in, candidate, candidates}
 
 -- all of these have lesser uids
 abbrev pub AreBelow : ℕ → List Slot → Type 0
@@ -34,6 +34,11 @@ greatest_push pick (x ∷ xs) y h =
         let below : leb x.uid pick ≡ true = le-leb x.uid pick (omega (arith, h.0)) in
         rw (below, lt-ltb x.uid y.uid h.0) refl
     go false is = refl
+
+-- the later one, if it isn't past the pick or is the first
+abbrev pub step_of : ℕ → Slot → Option Slot → Option Slot
+step_of pick slot None = Some slot
+step_of pick slot (Some best) = cond (ltb pick slot.uid) (Some best) (Some slot)
 
 -- the one, else the other
 abbrev else_one : Option Slot → Slot → Slot
@@ -98,37 +103,10 @@ picked_in pick xs s e = go (greatest pick xs) (best_in (is_at_or_below pick) has
 
 -- ---- the loop
 
-candidates-append : (now : ℕ) (idle : Bool) (xs ys : List Held) → candidates now idle (xs ++ ys) ≡ candidates now idle xs ++ candidates now idle ys
+pub candidates-append : (now : ℕ) (idle : Bool) (xs ys : List Held) → candidates now idle (xs ++ ys) ≡ candidates now idle xs ++ candidates now idle ys
 candidates-append now idle [] ys = refl
 candidates-append now idle (x ∷ xs) ys = go (candidate now idle x) (candidates-append now idle xs ys)
   where
     go : (b : Bool) → candidates now idle (xs ++ ys) ≡ candidates now idle xs ++ candidates now idle ys → cond b (slot_in x ∷ candidates now idle (xs ++ ys)) (candidates now idle (xs ++ ys)) ≡ cond b (slot_in x ∷ candidates now idle xs) (candidates now idle xs) ++ candidates now idle ys
     go true ih = ap (λ (ss : List Slot). slot_in x ∷ ss) ih
     go false ih = ih
-
-past_at : (uid : ℕ) (hs : List Held) (i : ℕ) (h : Held) → ArePast uid hs → i < length hs → h ≡ get_or hs i h → uid < h.uid
-past_at uid [] i h p lt is = absurd (omega arith)
-past_at uid (x ∷ hs) zero h p lt is = subst (λ (y : Held). uid < y.uid) (sym is) p.0
-past_at uid (x ∷ hs) (suc i) h p lt is = past_at uid hs i h p.1 (omega arith) is
-
-candidates_below : (now : ℕ) (idle : Bool) (hs : List Held) (i : ℕ) (h : Held) → AreRising hs → i < length hs → h ≡ get_or hs i h → AreBelow h.uid (candidates now idle (take i hs))
-candidates_below now idle [] i h r lt is = absurd (omega arith)
-candidates_below now idle (x ∷ hs) zero h r lt is = tt
-candidates_below now idle (x ∷ hs) (suc i) h r lt is = go (candidate now idle x) (past_at x.uid hs i h r.0 (omega arith) is) (candidates_below now idle hs i h r.1 (omega arith) is)
-  where
-    go : (b : Bool) → x.uid < h.uid → AreBelow h.uid (candidates now idle (take i hs)) → AreBelow h.uid (cond b (slot_in x ∷ candidates now idle (take i hs)) (candidates now idle (take i hs)))
-    go true below ih = (below, ih)
-    go false below ih = ih
-
-candidates_more : (now : ℕ) (idle : Bool) (hs : List Held) (i : ℕ) (h : Held) → i < length hs → h ≡ get_or hs i h → candidates now idle (take (i + 1) hs) ≡ candidates now idle (take i hs) ++ cond (candidate now idle h) (slot_in h ∷ []) []
-candidates_more now idle hs i h lt is =
-    ap (candidates now idle) (take_more hs i h lt ∙ ap (λ (y : Held). take i hs ++ y ∷ []) (sym is)) ∙ candidates-append now idle (take i hs) (h ∷ [])
-
-pub pick_on : (pick now : ℕ) (idle : Bool) (hs : List Held) (i : ℕ) (h : Held) (best next : Option Slot) → AreRising hs → i < length hs → h ≡ get_or hs i h → candidate now idle h ≡ true → best ≡ picked pick (candidates now idle (take i hs)) → next ≡ step_of pick (slot_in h) best → next ≡ picked pick (candidates now idle (take (i + 1) hs))
-pick_on pick now idle hs i h best next r lt is can so_far e =
-    let more : candidates now idle (take (i + 1) hs) ≡ candidates now idle (take i hs) ++ slot_in h ∷ [] = candidates_more now idle hs i h lt is ∙ ap (λ (b : Bool). candidates now idle (take i hs) ++ cond b (slot_in h ∷ []) []) can in
-    e ∙ ap (step_of pick (slot_in h)) so_far ∙ sym (picked_push pick (candidates now idle (take i hs)) (slot_in h) (candidates_below now idle hs i h r lt is)) ∙ ap (picked pick) (sym more)
-
-pub pick_off : (pick now : ℕ) (idle : Bool) (hs : List Held) (i : ℕ) (h : Held) (best : Option Slot) → i < length hs → h ≡ get_or hs i h → candidate now idle h ≡ false → best ≡ picked pick (candidates now idle (take i hs)) → best ≡ picked pick (candidates now idle (take (i + 1) hs))
-pick_off pick now idle hs i h best lt is can so_far =
-    so_far ∙ ap (picked pick) (sym (candidates_more now idle hs i h lt is ∙ ap (λ (b : Bool). candidates now idle (take i hs) ++ cond b (slot_in h ∷ []) []) can ∙ append-nil (candidates now idle (take i hs))))

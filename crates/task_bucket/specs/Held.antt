@@ -2,6 +2,7 @@
 use Rattle.std.specs.Prelude.{
   ℕ,
   ◌+◌,
+  ◌-◌,
   ◌<◌,
   Bool,
   true,
@@ -136,9 +137,14 @@ abbrev pub first_held : ℕ → ℕ → List Held → Option Held
 first_held until uid [] = None
 first_held until uid (h ∷ hs) = if held_is until uid h then Some h else first_held until uid hs
 
-abbrev pub step_of : ℕ → Slot → Option Slot → Option Slot
-step_of pick slot None = Some slot
-step_of pick slot (Some best) = if nat_lt pick slot.uid then Some best else Some slot
+-- the first one that a claim may take where nothing is available
+abbrev pub or_due : ℕ → Option Held → Held → Option Held
+or_due now (Some due) held = Some due
+or_due now None held = if candidate now true held then Some held else None
+
+-- the place of a step down from a place, and then up from it
+abbrev pub place_at : ℕ → ℕ → ℕ
+place_at place step = if nat_lt step place then place - 1 - step else step
 
 -- the two lists with one more task
 abbrev pub put_into : Option ℕ → Held → Lists → Lists

@@ -7,7 +7,7 @@ ghost use Rattle.task_bucket.specs.Claims.{claimed, after_claim};
 ghost use Rattle.task_bucket.specs.Leases.{extended_in, retimed_in, finished_in};
 ghost use Rattle.task_bucket.specs.Held.{AreRising, held_is, lists_in, put_into};
 
-use crate::held::{Held, find, is_idle, is_leased, lease_out, picked, place_for, retime, wake_if};
+use crate::held::{Held, find, is_leased, lease_out, picked, place_for, retime, wake_if};
 use crate::{Lease, LeaseFault};
 use std::alloc::AllocError;
 
@@ -33,10 +33,10 @@ fn claim_in(held: &mut [Held], now: u64, lease: u64, pick: u64) -> Result<Option
     ensures ok { OnOk result (lists_in held.new ≡ after_claim now lease pick (lists_in held.old)) }
     ensures err { OnErr result (held.new ≡ held.old) }
 {
-    let idle = is_idle(held);
-    let Some(one) = picked(held, now, idle, pick) else {
+    let Some(one) = picked(held, now, pick) else {
         return Ok(None);
     };
+    let idle = !one.is_free();
     let uid = one.uid;
     let task = one.task.copy()?;
     let until = now + lease;

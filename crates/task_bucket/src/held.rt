@@ -1,7 +1,7 @@
 //! The tasks of a bucket in one list, each available or leased.
 
-ghost use Rattle.std.specs.Prelude.{◌≡◌, ◌==◌, if◌then◌else◌, ℕ, length, map, option_map, option_copied, IfOk, OnOk, OnErr};
-ghost use Rattle.task_bucket.specs.Held.{held_is, candidate, candidates, AreRising, is_free, is_idle, place_for, lesser_count, step_of, slot_in, woken, leased_if, retimed_held, first_held, leases_in, lists_in, least_of};
+ghost use Rattle.std.specs.Prelude.{◌≡◌, ◌<◌, ◌≤◌, ◌==◌, if◌then◌else◌, true, not, length, map, option_map, option_copied, IfSome};
+ghost use Rattle.task_bucket.specs.Held.{held_is, candidate, candidates, AreRising, is_free, is_idle, place_for, place_at, lesser_count, or_due, slot_in, woken, leased_if, retimed_held, first_held, leases_in, lists_in, least_of};
 ghost use Rattle.task_bucket.specs.Lists.{is_leased, least_until};
 ghost use Rattle.task_bucket.specs.Claims.{picked};
 
@@ -26,17 +26,18 @@ impl Held {
         }
     }
 
-    /// Whether it may be claimed: where nothing is available, those that are due, too.
-    pub fn is_candidate(&self, now: u64, idle: bool) -> bool
-        ensures { result ≡ candidate now idle self.now }
+    /// Whether it may be claimed where nothing is available: it is due, or available.
+    fn is_candidate(&self, now: u64) -> bool
+        ensures { result ≡ candidate now true self.now }
     {
         match self.until {
             None => true,
-            Some(until) => idle && until <= now,
+            Some(until) => until <= now,
         }
     }
 
-    fn is_free(&self) -> bool
+    /// Whether it is available.
+    pub fn is_free(&self) -> bool
         ensures { result ≡ is_free self.now.until }
     {
         match self.until {
@@ -79,22 +80,11 @@ impl Held {
     }
 }
 
-/// Whether none is available.
-pub fn is_idle(held: &[Held]) -> bool
-    ensures { result ≡ is_idle held.now }
-{
-    for one in held {
-        if one.is_free() {
-            return false;
-        }
-    }
-    true
-}
-
 /// The place of the first with a greater uid. It halves.
 pub fn place_for(held: &[Held], uid: u64) -> usize
     requires { AreRising held.now }
-    ensures { result ≡ place_for uid held.now }
+    ensures place { result ≡ place_for uid held.now }
+    ensures within { result ≤ length held.now }
 {
     held.partition_point(|one| one.uid <= uid)
 }
@@ -107,30 +97,48 @@ fn place_of(held: &[Held], uid: u64) -> usize
     held.partition_point(|one| one.uid < uid)
 }
 
-// The later one, if it isn't past the pick or is the first.
-fn better<'a>(best: Option<&'a Held>, one: &'a Held, pick: u64) -> Option<&'a Held>
-    ensures { option_map slot_in (option_copied result)
-        ≡ step_of pick (slot_in one.now) (option_map slot_in (option_copied best.entry)) }
+// The first that is due, or this one.
+fn or_due<'a>(due: Option<&'a Held>, one: &'a Held, now: u64) -> Option<&'a Held>
+    ensures { option_copied result ≡ or_due now (option_copied due.entry) one.now }
 {
-    match best {
-        Some(other) if pick < one.uid => Some(other),
-        _ => Some(one),
+    match due {
+        Some(_) => due,
+        None if one.is_candidate(now) => Some(one),
+        None => None,
     }
 }
 
-/// The one to claim: that with the greatest uid at or below the pick, else the first.
-pub fn picked(held: &[Held], now: u64, idle: bool, pick: u64) -> Option<&Held>
-    requires { AreRising held.now }
-    ensures { option_map slot_in (option_copied result)
-        ≡ picked pick (candidates now idle held.now) }
+// Down from a place to the first, and then up from it to the last.
+fn place_at(place: usize, step: usize, count: usize) -> usize
+    requires place { place ≤ count }
+    requires step { step < count }
+    ensures at { result ≡ place_at place step }
+    ensures within { result < count }
 {
-    let mut best: Option<&Held> = None;
-    for one in held {
-        if one.is_candidate(now, idle) {
-            best = better(best, one, pick);
+    if step < place { place - 1 - step } else { step }
+}
+
+/// The one to claim, and where nothing is available, of those that are due: that with the greatest
+/// uid at or below the pick, else the first. It looks at the uids nearest to the pick first, so it
+/// mostly ends soon where something is available.
+pub fn picked(held: &[Held], now: u64, pick: u64) -> Option<&Held>
+    requires { AreRising held.now }
+    ensures slot { option_map slot_in (option_copied result)
+        ≡ picked pick (candidates now (is_idle held.now) held.now) }
+    ensures idle { IfSome (option_copied result)
+        (λ one. is_free one.until ≡ not (is_idle held.now)) }
+{
+    let place = place_for(held, pick);
+    let mut due: Option<&Held> = None;
+    let count = held.len();
+    for step in 0..count {
+        let one = &held[place_at(place, step, count)];
+        if one.is_free() {
+            return Some(one);
         }
+        due = or_due(due, one, now);
     }
-    best
+    due
 }
 
 /// Makes those that are due available, where nothing is.

@@ -10,7 +10,7 @@ use Rattle.task_futures.specs.Changes.{is_lesser, lesser_count, cleared}
 
 -- ---- halving
 
-past_at : (u : ℕ) (fs : List SeenFuture) (j : ℕ) (d : SeenFuture) → ArePast u fs → j < length fs → u < (get_or fs j d).number
+pub past_at : (u : ℕ) (fs : List SeenFuture) (j : ℕ) (d : SeenFuture) → ArePast u fs → j < length fs → u < (get_or fs j d).number
 past_at u [] j d p lt = absurd (omega arith)
 past_at u (f ∷ fs) zero d p lt = p.0
 past_at u (f ∷ fs) (suc j) d p lt = past_at u fs j d p.1 (omega arith)
@@ -131,36 +131,43 @@ keeps_other n p (b ∷ bs) e =
 cleared_other : (p : Part) (f : SeenFuture) → (p.join ≡ f.number → ⊥) → cleared p f ≡ f
 cleared_other p f other = λ i. record { number = f.number; blocks = keeps_other f.number p f.blocks (ne_eqb p.join f.number other) i; callbacks = f.callbacks; joins = f.joins }
 
-cleared_past : (u : ℕ) (p : Part) (fs : List SeenFuture) → ArePast u fs → p.join ≤ u → map (cleared p) fs ≡ fs
-cleared_past u p [] past le = refl
-cleared_past u p (f ∷ fs) past le = λ i. cleared_other p f (λ e. omega (arith, past.0, e, le)) i ∷ cleared_past u p fs past.1 le i
+-- what is changed at the place of a number, where the others stay
+changed_past : (n : ℕ) (change : SeenFuture → SeenFuture) → ((f : SeenFuture) → (f.number ≡ n → ⊥) → change f ≡ f) → (u : ℕ) (fs : List SeenFuture) → ArePast u fs → n ≤ u → map change fs ≡ fs
+changed_past n change other u [] past le = refl
+changed_past n change other u (f ∷ fs) past le = λ i. other f (λ e. omega (arith, past.0, e, le)) i ∷ changed_past n change other u fs past.1 le i
+
+pub changed_there : (n : ℕ) (change : SeenFuture → SeenFuture) → ((f : SeenFuture) → (f.number ≡ n → ⊥) → change f ≡ f) → (fs : List SeenFuture) (i : ℕ) (x d : SeenFuture) → AreRising fs → i ≡ lesser_count n fs → i < length fs → x ≡ change (get_or fs i d) → set fs i x ≡ map change fs
+changed_there n change other [] i x d r is lt e = absurd (omega arith)
+changed_there n change other (f ∷ fs) i x d r is lt e = go (ltb f.number n) refl is (λ j. changed_there n change other fs j x d r.1)
+  where
+    go : (b : Bool) → ltb f.number n ≡ b → i ≡ cond b (1 + lesser_count n fs) 0 → ((j : ℕ) → j ≡ lesser_count n fs → j < length fs → x ≡ change (get_or fs j d) → set fs j x ≡ map change fs) → set (f ∷ fs) i x ≡ map change (f ∷ fs)
+    go true less is ih =
+        let next : i ≡ suc (lesser_count n fs) = omega (arith, is) in
+        let low = ltb-true f.number n less in
+        ap (λ (k : ℕ). set (f ∷ fs) k x) next
+        ∙ ap (λ (gs : List SeenFuture). f ∷ gs) (ih (lesser_count n fs) refl (omega (arith, next)) (e ∙ ap (λ (k : ℕ). change (get_or (f ∷ fs) k d)) next))
+        ∙ ap (λ (g : SeenFuture). g ∷ map change fs) (sym (other f (λ q. omega (arith, low, q))))
+    go false less is ih =
+        let high = ltb-false f.number n less in
+        ap (λ (k : ℕ). set (f ∷ fs) k x) is
+        ∙ ap (λ (g : SeenFuture). g ∷ fs) (e ∙ ap (λ (k : ℕ). change (get_or (f ∷ fs) k d)) is)
+        ∙ ap (λ (gs : List SeenFuture). change f ∷ gs) (sym (changed_past n change other f.number fs r.0 high))
+
+pub changed_none : (n : ℕ) (change : SeenFuture → SeenFuture) → ((f : SeenFuture) → (f.number ≡ n → ⊥) → change f ≡ f) → (fs : List SeenFuture) → length fs ≤ lesser_count n fs → fs ≡ map change fs
+changed_none n change other [] le = refl
+changed_none n change other (f ∷ fs) le = go (ltb f.number n) refl le (changed_none n change other fs)
+  where
+    go : (b : Bool) → ltb f.number n ≡ b → length (f ∷ fs) ≤ cond b (1 + lesser_count n fs) 0 → (length fs ≤ lesser_count n fs → fs ≡ map change fs) → f ∷ fs ≡ map change (f ∷ fs)
+    go true less le ih =
+        let low = ltb-true f.number n less in
+        ap (λ (g : SeenFuture). g ∷ fs) (sym (other f (λ q. omega (arith, low, q)))) ∙ ap (λ (gs : List SeenFuture). change f ∷ gs) (ih (omega arith))
+    go false less le ih = absurd (omega arith)
 
 pub cleared_there : (p : Part) (fs : List SeenFuture) (i : ℕ) (x d : SeenFuture) → AreRising fs → i ≡ lesser_count p.join fs → i < length fs → x ≡ cleared p (get_or fs i d) → set fs i x ≡ map (cleared p) fs
-cleared_there p [] i x d r is lt e = absurd (omega arith)
-cleared_there p (f ∷ fs) i x d r is lt e = go (ltb f.number p.join) refl is (λ j. cleared_there p fs j x d r.1)
-  where
-    go : (b : Bool) → ltb f.number p.join ≡ b → i ≡ cond b (1 + lesser_count p.join fs) 0 → ((j : ℕ) → j ≡ lesser_count p.join fs → j < length fs → x ≡ cleared p (get_or fs j d) → set fs j x ≡ map (cleared p) fs) → set (f ∷ fs) i x ≡ map (cleared p) (f ∷ fs)
-    go true less is ih =
-        let next : i ≡ suc (lesser_count p.join fs) = omega (arith, is) in
-        let low = ltb-true f.number p.join less in
-        ap (λ (k : ℕ). set (f ∷ fs) k x) next
-        ∙ ap (λ (gs : List SeenFuture). f ∷ gs) (ih (lesser_count p.join fs) refl (omega (arith, next)) (e ∙ ap (λ (k : ℕ). cleared p (get_or (f ∷ fs) k d)) next))
-        ∙ ap (λ (g : SeenFuture). g ∷ map (cleared p) fs) (sym (cleared_other p f (λ q. omega (arith, low, q))))
-    go false less is ih =
-        let high = ltb-false f.number p.join less in
-        ap (λ (k : ℕ). set (f ∷ fs) k x) is
-        ∙ ap (λ (g : SeenFuture). g ∷ fs) (e ∙ ap (λ (k : ℕ). cleared p (get_or (f ∷ fs) k d)) is)
-        ∙ ap (λ (gs : List SeenFuture). cleared p f ∷ gs) (sym (cleared_past f.number p fs r.0 high))
+cleared_there p = changed_there p.join (cleared p) (λ f o. cleared_other p f (λ q. o (sym q)))
 
 pub cleared_none : (p : Part) (fs : List SeenFuture) → length fs ≤ lesser_count p.join fs → fs ≡ map (cleared p) fs
-cleared_none p [] le = refl
-cleared_none p (f ∷ fs) le = go (ltb f.number p.join) refl le (cleared_none p fs)
-  where
-    go : (b : Bool) → ltb f.number p.join ≡ b → length (f ∷ fs) ≤ cond b (1 + lesser_count p.join fs) 0 → (length fs ≤ lesser_count p.join fs → fs ≡ map (cleared p) fs) → f ∷ fs ≡ map (cleared p) (f ∷ fs)
-    go true less le ih =
-        let low = ltb-true f.number p.join less in
-        ap (λ (g : SeenFuture). g ∷ fs) (sym (cleared_other p f (λ q. omega (arith, low, q)))) ∙ ap (λ (gs : List SeenFuture). cleared p f ∷ gs) (ih (omega arith))
-    go false less le ih = absurd (omega arith)
+cleared_none p = changed_none p.join (cleared p) (λ f o. cleared_other p f (λ q. o (sym q)))
 
 -- ---- the numbers go on rising
 

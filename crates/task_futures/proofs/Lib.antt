@@ -2,3 +2,5 @@ pub mod Finding
 pub mod Falling
 pub mod Linking
 pub mod Keeping
+pub mod Joining
+pub mod Nearing

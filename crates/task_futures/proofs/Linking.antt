@@ -1,19 +1,12 @@
--- The blocks of a join, one part after the other, and the future at a place.
+-- The future at a place.
 use Rattle.std.proofs.Common.{◌≡◌, ℕ, suc, ◌+◌, ◌<◌, Bool, true, false, cond, ◌||◌, eqb, List, [], ◌∷◌, ◌++◌, length, get_or, set, take, drop, refl, sym, ap, subst, ◌∙◌, Result, Ok, Err, arith}
 use Rattle.std.specs.Prelude.{OnOk, IfOk}
 use Rattle.std.proofs.lemmas.List.{append-nil, get_or_default, take_all}
-use Rattle.task_futures.specs.Futures.{SeenFuture, is_made, blocks_of, changed, place_of, is_open, is_some_block, links_of}
+use Rattle.task_futures.specs.Futures.{SeenFuture, is_made, blocks_of, changed, place_of, is_open, is_some_block}
 use Rattle.fb_bytes.proofs.Mapped.{drop-all}
 use Rattle.task_futures.specs.Changes.{lesser_count}
 use Rattle.task_futures.specs.Laws.{AreRising, AreFutures}
 use Rattle.task_futures.proofs.Finding.{made_place}
-
--- what a future was linked with so far, and what is left of the parts
-pub record Links (old : SeenFuture) (join : ℕ) (parts : List ℕ) (fs : List SeenFuture) (now : SeenFuture) (block : ℕ) (rest : List ℕ) : Type 0 where
-  pub number : now.number ≡ old.number
-  pub blocks : now.blocks ≡ old.blocks
-  pub callbacks : now.callbacks ≡ old.callbacks
-  pub joins : now.joins ++ links_of old.number join block rest fs ≡ old.joins ++ links_of old.number join 1 parts fs
 
 pub place_within : (number : ℕ) (fs : List SeenFuture) → is_made number fs ≡ true → place_of number fs < length fs
 place_within number [] e = absurd cc

@@ -1,6 +1,7 @@
 ghost use Rattle.std.specs.Prelude.{◌≡◌, ◌+◌, ◌≤◌, ◌^◌, ◌++◌, ◌==◌, not, [], IfOk, OnOk, OnErr, if◌then◌else◌};
 ghost use Rattle.std.specs.List.{filter};
 ghost use Rattle.task_futures.specs.Futures.{next_block, is_part, is_some_block, left};
+ghost use Rattle.task_futures.specs.Changes.{front};
 
 use crate::part::falls;
 use crate::{Part, Tasks};
@@ -61,6 +62,12 @@ fn keep_others(joins: &mut Vec<Part>, number: u64)
     joins.retain(|part| part.join != number);
 }
 
+fn drop_last(joins: &mut Vec<Part>)
+    ensures { joins.new.items ≡ front joins.old.items }
+{
+    joins.pop();
+}
+
 fn has_left(blocks: &[u64], pending: &[Part], number: u64) -> bool
     ensures { result ≡ is_some_block (left pending.now number blocks.now) }
 {
@@ -74,7 +81,7 @@ fn has_left(blocks: &[u64], pending: &[Part], number: u64) -> bool
 
 impl Future {
     ghost use Rattle.task_futures.specs.Futures.{SeenFuture, fresh_with, next_block, and_block, and_callback, is_some_block, left, is_part, unjoined, passed_on, becomes_set};
-    ghost use Rattle.task_futures.specs.Changes.{cleared, emptied, and_join};
+    ghost use Rattle.task_futures.specs.Changes.{cleared, emptied, is_open_one, and_link, less_link};
 
     pub fn new(alloc: Global, number: u64, blocks: Vec<u64>) -> Self
         ensures { result ≡ fresh_with number blocks.items }
@@ -109,27 +116,35 @@ impl Future {
         Ok(block)
     }
 
-    /// Adds a block that falls when the future is set.
-    pub fn add_join(&mut self, part: Part) -> Result<(), AllocError>
-        ensures { OnOk result (self.new ≡ and_join part self.old) }
+    /// Whether it has this number and isn't set.
+    pub fn is_open_one(&self, number: u64) -> bool
+        ensures { result ≡ is_open_one number self.now }
     {
-        self.joins.push(part)?;
-        Ok(())
+        self.number == number && self.is_open()
     }
 
-    /// An equal future with memory of its own.
-    pub fn copy(&self) -> Result<Self, AllocError>
-        ensures { IfOk result (λ future. future ≡ self.now) }
+    /// Adds a block that falls when the future is set, where it has this number and isn't set. It
+    /// says whether it has and isn't.
+    pub fn link(&mut self, number: u64, part: Part) -> Result<bool, AllocError>
+        ensures answer { IfOk result (λ found. found ≡ is_open_one number self.old) }
+        ensures ok { OnOk result
+            (self.new ≡ and_link (is_open_one number self.old) number part self.old) }
+        ensures err { OnErr result (self.new ≡ self.old) }
     {
-        let blocks = self.blocks.clone()?;
-        let callbacks = self.callbacks.copy()?;
-        let joins = self.joins.clone()?;
-        Ok(Future {
-            number: self.number,
-            blocks,
-            callbacks,
-            joins,
-        })
+        if !self.is_open_one(number) {
+            return Ok(false);
+        }
+        self.joins.push(part)?;
+        Ok(true)
+    }
+
+    /// Takes the last of these blocks off again, where it has this number and isn't set.
+    pub fn unlink_last(&mut self, number: u64)
+        ensures { self.new ≡ less_link (is_open_one number self.old) number self.old }
+    {
+        if self.is_open_one(number) {
+            drop_last(&mut self.joins);
+        }
     }
 
     pub fn add_callback(&mut self, task: Task) -> Result<(), AllocError>

@@ -1,9 +1,11 @@
 //! Futures: what is to be done once the last of some tasks is closed.
 #![tactic(auto)]
 
+mod due;
 mod future;
 mod futures;
 mod laws;
+mod links;
 mod list_futures;
 mod part;
 mod settling;

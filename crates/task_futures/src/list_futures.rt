@@ -1,9 +1,11 @@
-ghost use Rattle.std.specs.Prelude.{◌≡◌, ◌++◌, ◌≤◌, ◌^◌, ◌+◌, ◌==◌, not, [], ◌∷◌, map, List, IfOk, OnOk, if◌then◌else◌};
+ghost use Rattle.std.specs.Prelude.{◌≡◌, ◌++◌, ◌≤◌, ◌^◌, ◌+◌, ◌==◌, not, [], ◌∷◌, List, IfOk, OnOk, OnErr, if◌then◌else◌};
 ghost use Rattle.std.specs.List.{filter};
 ghost use Rattle.task_futures.specs.Laws.{AreRising};
-ghost use Rattle.task_futures.specs.Futures.{next_number, newly_set, settle, without_newest, join_blocks, linked};
+ghost use Rattle.task_futures.specs.Futures.{next_number, without_newest, join_blocks, joined};
 
+use crate::due::due_in;
 use crate::future::{Future, below_limit};
+use crate::links::{link_each, unlink_each};
 use crate::settling::{greatest, is_open, place_of, unblock, unlink_all};
 use crate::{Futures, Part, Tasks};
 use std::alloc::{AllocError, Global};
@@ -54,18 +56,6 @@ fn keep_others(futures: &mut Vec<Future>, number: u64)
     futures.retain(|one| one.number() != number);
 }
 
-fn due_in(alloc: Global, futures: &[Future], part: Part) -> Result<Tasks, AllocError>
-    ensures { IfOk result
-        (λ tasks. tasks ≡ newly_set futures.now (settle (part ∷ []) futures.now)) }
-{
-    let mut pending = vec![in alloc; part]?;
-    let mut due = Tasks::new(alloc);
-    for one in futures {
-        one.fall(&mut pending, &mut due)?;
-    }
-    Ok(due)
-}
-
 fn blocks_for(alloc: Global, futures: &[Future], parts: &[u64]) -> Result<Vec<u64>, AllocError>
     requires { AreRising futures.now }
     ensures { IfOk result (λ blocks. blocks.items ≡ join_blocks 1 parts.now futures.now) }
@@ -90,38 +80,24 @@ fn drop_newest(futures: &mut Vec<Future>)
     unlink_all(futures, number);
 }
 
-fn linked_all(
-    alloc: Global,
-    futures: &[Future],
+// Adds the future of a join, and the links in its parts. Without memory nothing changes.
+fn join(
+    futures: &mut Vec<Future>,
     parts: &[u64],
     number: u64,
-) -> Result<Vec<Future>, AllocError>
-    requires rising { AreRising futures.now }
-    requires next { number ≡ next_number futures.now }
-    ensures { IfOk result (λ all. all.items ≡ map (linked parts.now futures.now) futures.now) }
+    blocks: Vec<u64>,
+) -> Result<(), AllocError>
+    requires rising { AreRising futures.old.items }
+    requires next { number ≡ next_number futures.old.items }
+    requires blocks { blocks.items ≡ join_blocks 1 parts.now futures.old.items }
+    ensures ok { OnOk result (futures.new.items ≡ joined parts.now futures.old.items) }
+    ensures err { OnErr result (futures.new.items ≡ futures.old.items) }
 {
-    let mut all = Vec::new(alloc);
-    for one in futures {
-        let mut copy = one.copy()?;
-        link(&mut copy, futures, parts, number)?;
-        all.push(copy)?;
-    }
-    Ok(all)
-}
-
-fn link(one: &mut Future, futures: &[Future], parts: &[u64], join: u64) -> Result<(), AllocError>
-    requires rising { AreRising futures.now }
-    requires next { join ≡ next_number futures.now }
-    ensures { OnOk result (one.new ≡ linked parts.now futures.now one.old) }
-{
-    let mut block: u64 = 1;
-    for part in parts {
-        if is_open(futures, *part) {
-            if *part == one.number() {
-                one.add_join(Part { join, block })?;
-            }
-            block = block.checked_add(1).ok_or(AllocError)?;
-        }
+    let alloc = *futures.allocator();
+    link_each(futures, parts, number)?;
+    if futures.push(Future::new(alloc, number, blocks)).is_err() {
+        unlink_each(futures, parts);
+        return Err(AllocError);
     }
     Ok(())
 }
@@ -151,9 +127,7 @@ impl Futures for ListFutures {
     fn join(&mut self, parts: &[u64]) -> Result<u64, AllocError> {
         let number = next_number(&self.futures)?;
         let blocks = blocks_for(self.alloc, &self.futures, parts)?;
-        let mut futures = linked_all(self.alloc, &self.futures, parts, number)?;
-        futures.push(Future::new(self.alloc, number, blocks))?;
-        self.futures = futures;
+        join(&mut self.futures, parts, number, blocks)?;
         Ok(number)
     }
 

@@ -1,8 +1,8 @@
 //! Changes and looks over a list of futures, in the order of their numbers.
 
-ghost use Rattle.std.specs.Prelude.{◌≡◌, ◌≤◌, ◌<◌, ◌==◌, ◌&&◌, [], ◌∷◌, ◌++◌, map, take, drop, length};
+ghost use Rattle.std.specs.Prelude.{◌≡◌, ◌≤◌, ◌<◌, [], ◌∷◌, ◌++◌, map, take, drop, length};
 ghost use Rattle.task_futures.specs.Laws.{AreRising, AreFutures, HavePassedOn};
-ghost use Rattle.task_futures.specs.Futures.{greatest_number, is_open, is_some_block, unjoined, cleared_by, head_settled, settle};
+ghost use Rattle.task_futures.specs.Futures.{greatest_number, is_open, unjoined, cleared_by, head_settled, settle};
 ghost use Rattle.task_futures.specs.Changes.{cleared, lesser_count};
 
 use crate::Part;
@@ -39,16 +39,10 @@ pub fn is_open(futures: &[Future], number: u64) -> bool
 {
     let place = place_of(futures, number);
     if place < futures.len() {
-        has_open_block(&futures[place], number)
+        futures[place].is_open_one(number)
     } else {
         false
     }
-}
-
-fn has_open_block(one: &Future, number: u64) -> bool
-    ensures { result ≡ ((one.now.number == number) && is_some_block one.now.blocks) }
-{
-    one.number() == number && one.is_open()
 }
 
 // Takes a block off, where it is open.
