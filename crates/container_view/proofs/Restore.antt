@@ -22,7 +22,7 @@ use Rattle.container_view.specs.Folder.{Folder}
 use Rattle.container_view.specs.Chain.{chain}
 use Rattle.container_view.specs.Advertised.{chosen}
 use Rattle.container_view.specs.Meaning.{Piece, Part, overlaps, overlaps_any, are_disjoint, piece_of, value_at, replayed_parts, piece_named, read_chain, Needed, needed}
-use Rattle.container_view.specs.Restore.{loads, all_loads, older, applied, all_applied, IsWhole, RestoreLaw, RestoredLaw}
+use Rattle.container_view.specs.Restore.{loads, all_loads, older, applied, all_applied, IsWhole, AppliedLaw, RestoredLaw}
 use Rattle.fb_bytes.proofs.Options.{bind_some}
 use Rattle.container_view.proofs.Faithful.{container_law}
 
@@ -196,8 +196,8 @@ needed_disjoint folder v n e =
     go true pieces parts h e = let q : record { pieces = pieces; parts = parts } ≡ n = cc in ap (λ x. are_disjoint x.pieces) (sym q) ∙ h
     go false pieces parts h e = cc
 
-pub restore_law : RestoreLaw
-restore_law folder v block n e r meaning h key =
+pub applied_law : AppliedLaw
+applied_law folder v block n e r meaning h key =
     let same : Some (value_at n.pieces n.parts v) ≡ Some meaning = sym (ap (λ o. o >>= λ n. Some (value_at n.pieces n.parts v)) e) ∙ h in
     let f : value_at n.pieces n.parts v ≡ meaning = cc in
     restored_by block n.pieces n.parts v r.whole (needed_disjoint folder v n e) r.of_block key (piece_of n.pieces key) refl ∙ ap (λ g. g key) f
@@ -205,4 +205,4 @@ restore_law folder v block n e r meaning h key =
 pub restored_law : RestoredLaw
 restored_law s folder v honest a n e r key =
     let f = (container_law s folder honest).each v a in
-    restore_law folder v s.block n e r f.meaning f.defined key ∙ f.same key
+    applied_law folder v s.block n e r f.meaning f.defined key ∙ f.same key

@@ -29,10 +29,11 @@ use Rattle.file_names.specs.declared.Name.TheVariants.{
 use Rattle.file_names.specs.Reading.{name_of}
 use Rattle.container_view.specs.declared.logs.NamedLog.{NamedLog}
 use Rattle.container_view.specs.declared.logs.Run.{Run}
+use Rattle.container_view.specs.declared.logs.SortedLogs.{SortedLogs}
 use Rattle.container_view.specs.Folder.{LogFile}
 use Rattle.container_view.specs.Chain.{comes_first, best_log}
 use Rattle.container_view.specs.Bounds.{reached}
-use Rattle.container_view.specs.Names.{seen}
+use Rattle.container_view.specs.Names.{seen, logs_named}
 
 -- a log file of which the name, the begin and the end are known
 abbrev pub plain_log : Bytes → ℕ → ℕ → LogFile
@@ -122,6 +123,11 @@ best_in logs version = held version (last_begun (λ log. log.begin) version None
 -- two lists have the same best log at each version
 abbrev pub HaveSameBest : List LogFile → List LogFile → Type 0
 HaveSameBest a b = (version : ℕ) → seen (best_log a version) ≡ seen (best_log b version)
+
+-- the logs stand in the order of their begins, and have the same best ones as those among the names
+pub record AreSorted (logs : SortedLogs) : Type 0 where
+  pub rising : IsRisingBy (λ log. log.begin) 0 logs.list.items
+  pub same : HaveSameBest (logs_of logs.list.items) (logs_named logs.names.now)
 
 -- what is found in the first list is the best log of the second, at each version
 abbrev pub TellsBest : List LogFile → List LogFile → Type 0

@@ -77,8 +77,8 @@ pub record IsReadable (block : ℕ) (n : Needed) : Type 0 where
   pub of_block : AllByRecursion (λ part. part.block ≡ block) n.parts
 
 -- loaded and applied, the files leave what they mean, whoever wrote them
-abbrev pub RestoreLaw : Type 0
-RestoreLaw = (folder : Folder) (version block : ℕ) (n : Needed) → needed folder version ≡ Some n
+abbrev pub AppliedLaw : Type 0
+AppliedLaw = (folder : Folder) (version block : ℕ) (n : Needed) → needed folder version ≡ Some n
     → IsReadable block n → (meaning : Bytes → Option Bytes) → means folder version ≡ Some meaning
     → (key : Bytes) → effects (limit_of block) (restored n version) key None ≡ meaning key
 

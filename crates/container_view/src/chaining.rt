@@ -2,8 +2,9 @@
 
 ghost use Rattle.std.specs.Prelude.{◌≡◌, ◌+◌, IfOk};
 ghost use Rattle.container_view.specs.Names.{chain_named};
+ghost use Rattle.container_view.specs.Listed.{AreSorted};
 
-use crate::logs::{best_at, best_logs};
+use crate::logs::{SortedLogs, best_at, best_logs, sorted_logs};
 use fb_bytes::{Names, Seq, Text, TryCopy};
 use std::alloc::{AllocError, Global};
 
@@ -56,11 +57,25 @@ pub fn chain_past(
 ) -> Result<Option<Seq<Link>>, AllocError>
     ensures { IfOk result (λ links. links ≡ chain_named names.now from (last + 1)) }
 {
-    let logs = best_logs(alloc, names.as_slice())?;
+    let logs = sorted_logs(alloc, names)?;
+    sorted_chain(alloc, &logs, from, last)
+}
+
+/// The chain of these log files from `from` until it is past `last`.
+pub(crate) fn sorted_chain(
+    alloc: Global,
+    logs: &SortedLogs<'_>,
+    from: u64,
+    last: u64,
+) -> Result<Option<Seq<Link>>, AllocError>
+    requires { AreSorted logs.now }
+    ensures { IfOk result (λ links. links ≡ chain_named logs.now.names.now from (last + 1)) }
+{
+    let bests = best_logs(alloc, logs)?;
     let mut links = Vec::new(alloc);
     let mut version = from;
     'links: while version <= last {
-        let Some((name, end)) = best_at(&logs, version) else {
+        let Some((name, end)) = best_at(&bests, version) else {
             return Ok(None);
         };
         let name = name.copy()?;

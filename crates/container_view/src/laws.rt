@@ -10,7 +10,7 @@ ghost use Rattle.container_view.specs.Law.{ContainerLaw};
 ghost use Rattle.container_view.specs.Lookups.{FileLaw};
 ghost use Rattle.container_view.specs.Names.{NamesLaw};
 ghost use Rattle.container_view.specs.Property.{PropertyLaw};
-ghost use Rattle.container_view.specs.Restore.{RestoreLaw, RestoredLaw};
+ghost use Rattle.container_view.specs.Restore.{AppliedLaw, RestoredLaw};
 ghost use Rattle.container_view.specs.Sets.{SetLaw};
 ghost use Rattle.container_view.specs.Stores.{StoreLaw};
 
@@ -60,8 +60,8 @@ pub fn bounds_law()
 {}
 
 /// Loads and clipped mutations leave what the files mean.
-pub fn restore_law()
-    ensures { RestoreLaw }
+pub fn applied_law()
+    ensures { AppliedLaw }
 {}
 
 /// A restore from honest files leaves the history's pairs.

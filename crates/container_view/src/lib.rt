@@ -12,9 +12,9 @@ mod view;
 
 pub use chaining::{Link, chain, chain_past};
 pub use laws::{
-    bounds_law, chain_law, change_law, chosen_law, container_law, contents_law, file_law,
-    given_law, growth_law, honest_store_law, life_law, names_law, property_law, reach_law,
-    restore_law, restored_law, set_law, store_law,
+    applied_law, bounds_law, chain_law, change_law, chosen_law, container_law, contents_law,
+    file_law, given_law, growth_law, honest_store_law, life_law, names_law, property_law,
+    reach_law, restored_law, set_law, store_law,
 };
 pub use property::read_property;
 pub use restoring::{RestoreSet, get_file, restore_set};

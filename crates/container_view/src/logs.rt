@@ -3,10 +3,10 @@
 ghost use Rattle.std.specs.Prelude.{◌≡◌, ◌<◌, option_map, None, IfOk, IfSome};
 ghost use Rattle.container_view.specs.Chain as spec;
 ghost use Rattle.container_view.specs.Names.{logs_named};
-ghost use Rattle.container_view.specs.Listed.{IsRisingBy, log_of, log_named, plain_logs, logs_of, bests, better, best_in, runs_of, reach_in, HaveSameBest, TellsBest, TellsReach};
+ghost use Rattle.container_view.specs.Listed.{IsRisingBy, log_of, log_named, plain_logs, logs_of, bests, better, best_in, runs_of, reach_in, HaveSameBest, AreSorted, TellsBest, TellsReach};
 ghost use Rattle.file_names.specs.Reading.{name_of};
 
-use fb_bytes::{Text, is_below};
+use fb_bytes::{Names, Text, is_below};
 use file_names::{Name, parse};
 use std::alloc::{AllocError, Global};
 
@@ -18,6 +18,13 @@ pub(crate) struct NamedLog<'a> {
     pub end: u64,
 }
 
+/// Names, and the log files among them in the order of their begins.
+#[derive(Debug, Drop)]
+pub(crate) struct SortedLogs<'a> {
+    pub names: &'a Names,
+    pub list: Vec<NamedLog<'a>>,
+}
+
 /// Versions without a gap that log files have: from `begin` on and before `end`.
 #[derive(Debug, Drop)]
 pub(crate) struct Run {
@@ -25,26 +32,35 @@ pub(crate) struct Run {
     pub end: u64,
 }
 
-/// The log files among these names in the order of their begins, each with the name and the end of
-/// the one that comes first among those up to it.
-pub(crate) fn best_logs<'a>(
-    alloc: Global,
-    names: &'a [Text],
-) -> Result<Vec<NamedLog<'a>>, AllocError>
-    ensures rising { IfOk result (λ logs. IsRisingBy (λ log. log.begin) 0 logs.items) }
-    ensures same { IfOk result (λ logs. TellsBest (logs_of logs.items) (logs_named names.now)) }
+/// The log files among these names, parsed once for all that is looked up in them.
+pub(crate) fn sorted_logs(alloc: Global, names: &Names) -> Result<SortedLogs<'_>, AllocError>
+    ensures names { IfOk result (λ logs. logs.names.now ≡ names.now) }
+    ensures sorted { IfOk result AreSorted }
 {
-    let logs = sorted(alloc, names)?;
-    with_bests(alloc, &logs)
+    let list = sorted(alloc, names.as_slice())?;
+    Ok(SortedLogs { names, list })
 }
 
-/// The runs of the versions that log files among these names have.
-pub(crate) fn runs(alloc: Global, names: &[Text]) -> Result<Vec<Run>, AllocError>
-    ensures rising { IfOk result (λ runs. IsRisingBy (λ run. run.begin) 0 runs.items) }
-    ensures same { IfOk result (λ runs. TellsReach runs.items (logs_named names.now)) }
+/// The log files, each with the name and the end of the one that comes first among those up to it.
+pub(crate) fn best_logs<'a>(
+    alloc: Global,
+    logs: &SortedLogs<'a>,
+) -> Result<Vec<NamedLog<'a>>, AllocError>
+    requires { AreSorted logs.now }
+    ensures rising { IfOk result (λ list. IsRisingBy (λ log. log.begin) 0 list.items) }
+    ensures same { IfOk result
+        (λ list. TellsBest (logs_of list.items) (logs_named logs.now.names.now)) }
 {
-    let logs = sorted(alloc, names)?;
-    joined(alloc, &logs)
+    with_bests(alloc, &logs.list)
+}
+
+/// The runs of the versions that the log files have.
+pub(crate) fn runs(alloc: Global, logs: &SortedLogs<'_>) -> Result<Vec<Run>, AllocError>
+    requires { AreSorted logs.now }
+    ensures rising { IfOk result (λ runs. IsRisingBy (λ run. run.begin) 0 runs.items) }
+    ensures same { IfOk result (λ runs. TellsReach runs.items (logs_named logs.now.names.now)) }
+{
+    joined(alloc, &logs.list)
 }
 
 /// Of log files in the order of their begins, the name and end of the one that comes first among

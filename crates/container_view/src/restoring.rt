@@ -2,6 +2,7 @@
 
 ghost use Rattle.std.specs.Prelude.{◌≡◌, ◌+◌, ◌≤◌, ◌⊎◌, List, Some, None, Ok, Err, ok_or, option_map, IfOk, IfErr, IsErrOf};
 ghost use Rattle.container_view.specs.Files.{inside};
+ghost use Rattle.container_view.specs.Listed.{AreSorted};
 ghost use Rattle.container_view.specs.Sets as spec;
 ghost use Rattle.container_view.specs.declared.view.ViewFault.TheVariants as faults;
 ghost use Rattle.container_view.specs.declared.view.FileFault.TheVariants as file_faults;
@@ -11,12 +12,11 @@ ghost use Rattle.manifests.specs.Reading.{manifest_read};
 ghost use Rattle.fb_outside.specs.Faults.{Counts};
 ghost use Rattle.fb_outside.specs.declared.File.{File};
 
-use crate::chaining::chain_past;
+use crate::chaining::sorted_chain;
 use crate::listing::{in_order, is_listed};
-use crate::{
-    Bounds, FileFault, Link, ViewFault, get_property, list_names, manifest_for, restorable,
-    whole_name,
-};
+use crate::logs::{SortedLogs, sorted_logs};
+use crate::versions::{sorted_bounds, sorted_manifest};
+use crate::{Bounds, FileFault, Link, ViewFault, get_property, list_names, whole_name};
 use fb_bytes::{Blob, Names, Seq, Text};
 use fb_outside::Vault;
 use file_names::parse;
@@ -110,11 +110,12 @@ fn set_by<V: Vault>(
         (IsErrOf result ViewFault.VaultFault) }
     ensures called { V.calls vault.new ≤ V.calls vault.old + 1 }
 {
-    let Some(name) = manifest_for(alloc, names, unreliable, version)? else {
-        return Err(not_restorable(restorable(alloc, names, unreliable)?));
+    let logs = sorted_logs(alloc, names)?;
+    let Some(name) = sorted_manifest(alloc, &logs, unreliable, version)? else {
+        return Err(not_restorable(sorted_bounds(alloc, &logs, unreliable)?));
     };
     let manifest = get_manifest(alloc, vault, container, name)?;
-    set_with(alloc, names, manifest, version)
+    set_with(alloc, &logs, manifest, version)
 }
 
 // The refusal of a version that isn't advertised.
@@ -177,22 +178,23 @@ fn read_manifest(alloc: Global, name: &Text, bytes: &[u8]) -> Result<Manifest, V
 // A manifest, its range files in its order, and the links that go past the version.
 fn set_with(
     alloc: Global,
-    names: &Names,
+    logs: &SortedLogs<'_>,
     manifest: Manifest,
     version: u64,
 ) -> Result<RestoreSet, ViewFault>
+    requires { AreSorted logs.now }
     ensures ok { IfOk result
-        (λ set. spec.set_with names.now manifest version
-        (spec.first_unlisted names.now manifest.files) ≡ Ok set) }
+        (λ set. spec.set_with logs.now.names.now manifest version
+        (spec.first_unlisted logs.now.names.now manifest.files) ≡ Ok set) }
     ensures err { IfErr result (λ fault. (fault ≡ faults.NoMemory)
-        ⊎ (spec.set_with names.now manifest version (spec.first_unlisted names.now manifest.files)
-        ≡ Err fault)) }
+        ⊎ (spec.set_with logs.now.names.now manifest version
+        (spec.first_unlisted logs.now.names.now manifest.files) ≡ Err fault)) }
 {
-    if let Some(name) = first_unlisted(alloc, names, manifest.files.as_slice())? {
+    if let Some(name) = first_unlisted(alloc, logs.names, manifest.files.as_slice())? {
         let name = name.copy()?;
         return Err(ViewFault::Missing { name });
     }
-    let links = match chain_past(alloc, names, manifest.begin, version)? {
+    let links = match sorted_chain(alloc, logs, manifest.begin, version)? {
         Some(links) => links,
         None => Seq::from_vec(Vec::new(alloc)),
     };

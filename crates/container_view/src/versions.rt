@@ -1,13 +1,13 @@
 //! The versions that a container can be restored to, from the names of its files alone.
 
 ghost use Rattle.std.specs.Prelude.{◌≡◌, ℕ, List, option_map, IfOk};
-ghost use Rattle.container_view.specs.Listed.{IsRisingBy, reach_in};
+ghost use Rattle.container_view.specs.Listed.{AreSorted, IsRisingBy, reach_in};
 ghost use Rattle.container_view.specs.Names.{folder_named, manifest_name, seen_manifest, better_manifest, given_named};
 ghost use Rattle.container_view.specs.Advertised.{chosen};
 ghost use Rattle.container_view.specs.Bounds as spec;
 ghost use Rattle.file_names.specs.Reading.{name_of};
 
-use crate::logs::{Run, comes_first, reached, runs};
+use crate::logs::{Run, SortedLogs, comes_first, reached, runs, sorted_logs};
 use fb_bytes::{Names, Text};
 use file_names::{Name, parse};
 use std::alloc::{AllocError, Global};
@@ -29,9 +29,23 @@ pub fn restorable(
     ensures { IfOk result
         (λ bounds. bounds ≡ spec.advertised_bounds (folder_named names.now unreliable)) }
 {
-    let runs = runs(alloc, names.as_slice())?;
+    let logs = sorted_logs(alloc, names)?;
+    sorted_bounds(alloc, &logs, unreliable)
+}
+
+/// The bounds of the versions that names advertise, by their log files.
+pub(crate) fn sorted_bounds(
+    alloc: Global,
+    logs: &SortedLogs<'_>,
+    unreliable: u64,
+) -> Result<Option<Bounds>, AllocError>
+    requires { AreSorted logs.now }
+    ensures { IfOk result
+        (λ bounds. bounds ≡ spec.advertised_bounds (folder_named logs.now.names.now unreliable)) }
+{
+    let runs = runs(alloc, logs)?;
     let mut bounds = None;
-    'names: for name in names.as_slice() {
+    'names: for name in logs.names.as_slice() {
         bounds = wider(bounds, given(&runs, unreliable, name));
     }
     Ok(bounds)
@@ -84,9 +98,24 @@ pub fn manifest_for<'a>(
     ensures { IfOk result (λ name. option_map (λ name. name.now) name
         ≡ manifest_name (chosen (folder_named names.now unreliable) version)) }
 {
-    let runs = runs(alloc, names.as_slice())?;
+    let logs = sorted_logs(alloc, names)?;
+    sorted_manifest(alloc, &logs, unreliable, version)
+}
+
+/// The name of the manifest that is restored for a version, among names, by their log files.
+pub(crate) fn sorted_manifest<'a>(
+    alloc: Global,
+    logs: &SortedLogs<'a>,
+    unreliable: u64,
+    version: u64,
+) -> Result<Option<&'a Text>, AllocError>
+    requires { AreSorted logs.now }
+    ensures { IfOk result (λ name. option_map (λ name. name.now) name
+        ≡ manifest_name (chosen (folder_named logs.now.names.now unreliable) version)) }
+{
+    let runs = runs(alloc, logs)?;
     let mut best = None;
-    'names: for name in names.as_slice() {
+    'names: for name in logs.names.as_slice() {
         best = better_manifest(best, &runs, unreliable, name, version);
     }
     match best {

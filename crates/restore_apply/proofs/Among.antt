@@ -1,9 +1,8 @@
 -- Pieces in a line: the one that holds a key, and those that have keys of a range.
 use Rattle.std.proofs.Common.{◌≡◌, ℕ, zero, suc, ◌+◌, ◌<◌, ◌≤◌, Bool, true, false, not, ◌&&◌, ◌||◌, cond, List, [], ◌∷◌, length, get_or, take, drop, Option, Some, None, Result, Ok, Err, OnOk, refl, sym, ap, ◌∙◌, subst, nat_lt, arith}
 use Rattle.std.specs.List.{prefix_len, slice_get, AllByRecursion}
-use Rattle.std.specs.List.Sorted.{IsPartitionedBy, IsPartitionPoint}
 use Rattle.std.proofs.lemmas.Bool.{cond-true, cond-false}
-use Rattle.fb_bytes.proofs.Halving.{Falls, parted, halved}
+use Rattle.fb_bytes.proofs.Halving.{Falls}
 use Rattle.fb_bytes.specs.Bytes.{Bytes, is_below}
 use Rattle.fb_bytes.specs.declared.KeyRange.{KeyRange}
 use Rattle.fb_bytes.specs.Keys.{holds, is_backwards}

@@ -6,3 +6,6 @@ mod Sorting
 mod Sweeps
 mod Batches
 mod Values
+mod Rising
+mod Loading
+mod Waiting

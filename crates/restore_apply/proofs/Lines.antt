@@ -60,7 +60,7 @@ held_once a b key o h = go (holds b key) refl
     go false g = g
 
 -- a range with keys, that begins no earlier and overlaps no key, begins at the end or past it
-past : (a b : KeyRange) → is_below b.begin a.begin ≡ false → overlaps a b ≡ false → is_backwards b ≡ false → is_below b.begin a.end ≡ false
+pub past : (a b : KeyRange) → is_below b.begin a.begin ≡ false → overlaps a b ≡ false → is_backwards b ≡ false → is_below b.begin a.end ≡ false
 past a b o n p =
     other (is_below a.begin b.end) (is_below b.begin a.end) n (below_down a.begin b.begin b.end o (not_false (is_below b.begin b.end) p))
 
@@ -91,13 +91,13 @@ pub are_ordered : (xs : List At) → AreOrdered (in_order xs)
 are_ordered [] = tt
 are_ordered (x ∷ xs) = ordered_placed x (in_order xs) (are_ordered xs)
 
-numbered_apart : (files : List LoadedFile) → first_overlap files ≡ None → apart_all (numbered 0 files) ≡ true
+pub numbered_apart : (files : List LoadedFile) → first_overlap files ≡ None → apart_all (numbered 0 files) ≡ true
 numbered_apart files h = apart_numbered 0 files ∙ (overlap_law files).0 h
 
 -- ---- what they say
 
 -- what the first whose range holds the key says of it
-abbrev said : {X : Type 0} → (At → Option X) → List At → Bytes → Option X
+abbrev pub said : {X : Type 0} → (At → Option X) → List At → Bytes → Option X
 said says [] key = None
 said says (x ∷ xs) key = cond (holds x.range key) (says x) (said says xs key)
 
@@ -114,7 +114,7 @@ said_placed says x (y ∷ ys) key n = by_test (is_below y.range.begin x.range.be
     ∙ swap_tests (holds x.range key) (holds y.range key) (says x) (says y) (said says ys key) (held_once x.range y.range key (not_left (overlaps x.range y.range) (overlaps_some x.range ys) n)))
     (λ e. refl)
 
-said_in_order : {X : Type 0} (says : At → Option X) (xs : List At) (key : Bytes) → apart_all xs ≡ true → said says (in_order xs) key ≡ said says xs key
+pub said_in_order : {X : Type 0} (says : At → Option X) (xs : List At) (key : Bytes) → apart_all xs ≡ true → said says (in_order xs) key ≡ said says xs key
 said_in_order says [] key a = refl
 said_in_order says (x ∷ xs) key a =
     let n = not_true (overlaps_some x.range xs) (left (not (overlaps_some x.range xs)) (apart_all xs) a) in
@@ -125,15 +125,18 @@ said_in_order says (x ∷ xs) key a =
 abbrev version_at : List LoadedFile → At → Option ℕ
 version_at files at = option_map (λ file. file.version) (slice_get files at.place)
 
-said_numbered : (all : List LoadedFile) (n : ℕ) (files : List LoadedFile) (key : Bytes) → ((i : ℕ) → slice_get all (n + i) ≡ slice_get files i) → said (version_at all) (numbered n files) key ≡ option_map (λ file. file.version) (file_with files key)
-said_numbered all n [] key h = refl
-said_numbered all n (file ∷ files) key h = go (holds (range_of file) key) refl (said_numbered all (n + 1) files key (λ i. let e : n + 1 + i ≡ n + suc i = omega arith in ap (slice_get all) e ∙ h (suc i)))
+pub said_numbered : {X : Type 0} (says : Option LoadedFile → Option X) → says None ≡ None → (all : List LoadedFile) (n : ℕ) (files : List LoadedFile) (key : Bytes) → ((i : ℕ) → slice_get all (n + i) ≡ slice_get files i) → said (λ at. says (slice_get all at.place)) (numbered n files) key ≡ says (file_with files key)
+said_numbered says z all n [] key h = sym z
+said_numbered {X} says z all n (file ∷ files) key h = go (holds (range_of file) key) refl (said_numbered says z all (n + 1) files key (λ i. let e : n + 1 + i ≡ n + suc i = omega arith in ap (slice_get all) e ∙ h (suc i)))
   where
     here : slice_get all n ≡ Some file
     here = let e : n ≡ n + 0 = omega arith in ap (slice_get all) e ∙ h 0
 
-    go : (b : Bool) → holds (range_of file) key ≡ b → said (version_at all) (numbered (n + 1) files) key ≡ option_map (λ f. f.version) (file_with files key) → said (version_at all) (numbered n (file ∷ files)) key ≡ option_map (λ f. f.version) (file_with (file ∷ files) key)
-    go true e ih = rw e (ap (option_map (λ f. f.version)) here)
+    rest : Option X
+    rest = said (λ at. says (slice_get all at.place)) (numbered (n + 1) files) key
+
+    go : (b : Bool) → holds (range_of file) key ≡ b → rest ≡ says (file_with files key) → said (λ at. says (slice_get all at.place)) (numbered n (file ∷ files)) key ≡ says (file_with (file ∷ files) key)
+    go true e ih = rw e (ap says here)
     go false e ih = rw e ih
 
 -- ---- places
@@ -193,7 +196,7 @@ pieces_are files order pieces o h p = subst (ArePiecesOf files) (sym (p ∙ ap (
   line = line_at files (in_order (numbered 0 files)) (are_ordered (numbered 0 files)) (apart_in_order (numbered 0 files) ∙ numbered_apart files h);
   tell = λ key. tell_at files (in_order (numbered 0 files)) key (places_within files)
       ∙ said_in_order (version_at files) (numbered 0 files) key (numbered_apart files h)
-      ∙ said_numbered files 0 files key (λ i. let e : 0 + i ≡ i = omega arith in ap (slice_get files) e);
+      ∙ said_numbered (option_map (λ file. file.version)) refl files 0 files key (λ i. let e : 0 + i ≡ i = omega arith in ap (slice_get files) e);
 })
 
 -- one more piece, of one more range

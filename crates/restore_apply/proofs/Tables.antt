@@ -18,7 +18,7 @@ use Rattle.fb_bytes.specs.Pairs.{value_of, KeyPast, AreRising}
 use Rattle.fb_bytes.proofs.Order.{below_not_same, same_eq, same_both, not_both}
 use Rattle.mutations.specs.Effects.{range_of}
 use Rattle.mutations.proofs.Intersections.{holds_backwards}
-use Rattle.restore_apply.specs.Tables.{Table, found, Leaves}
+use Rattle.restore_apply.specs.Tables.{Table, found, Leaves, paired}
 
 -- ---- the order of byte strings
 
@@ -124,10 +124,6 @@ clear_ends range old new at none e = go (holds range at) refl
 
 -- ---- the pairs of a table
 
-abbrev pub paired : List (Bytes × Bytes) → List Pair
-paired [] = []
-paired (e ∷ es) = record { key = e.0; value = e.1 } ∷ paired es
-
 rising_from : (key : Bytes) (es : List (Bytes × Bytes)) → AllByRecursion (λ y. slice_cmp nat_cmp key y ≡ Less) (keys_of es) → KeyPast key (paired es)
 rising_from key [] h = tt
 rising_from key (e ∷ es) h = less_is_below key e.0 h.0
@@ -165,6 +161,13 @@ pub first_held : (table : Table) (begin end : Bytes) (o : Option Bytes) (key : B
     → holds (range_of begin end) key ≡ true
 first_held table begin end o key e h =
     (subst (λ z. MatchOption z ((k : Bytes) → holds (range_of begin end) k ≡ true → found table k ≡ None) (λ k. (holds (range_of begin end) k ≡ true) × IsSome (found table k))) e h).0
+
+pub entry_next : (old new : List (Bytes × Bytes)) (pair : Pair) (items rest all : List Pair) → new ≡ old ++ (pair.key, pair.value) ∷ [] → items ≡ pair ∷ rest → paired old ++ items ≡ all → paired new ++ rest ≡ all
+entry_next old new pair items rest all n e h = ap (λ es. paired es ++ rest) n ∙ go old ∙ ap (λ xs. paired old ++ xs) (sym e) ∙ h
+  where
+    go : (es : List (Bytes × Bytes)) → paired (es ++ (pair.key, pair.value) ∷ []) ++ rest ≡ paired es ++ pair ∷ rest
+    go [] = refl
+    go (x ∷ xs) = ap (λ ys. record { key = x.0; value = x.1 } ∷ ys) (go xs)
 
 pub paired_all : (pairs : List Pair) (rest es : List (Bytes × Bytes)) → rest ≡ [] → pairs ++ paired rest ≡ paired es → pairs ≡ paired es
 paired_all pairs rest es r e = sym (append-nil pairs) ∙ sym (ap (λ xs. pairs ++ paired xs) r) ∙ e

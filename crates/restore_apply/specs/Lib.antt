@@ -3,3 +3,4 @@ pub mod Overlaps
 pub mod Laws
 pub mod Pieces
 pub mod Tables
+pub mod Stored

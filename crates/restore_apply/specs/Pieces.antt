@@ -3,6 +3,8 @@ use Rattle.std.specs.Prelude.{
   ◌≡◌,
   ℕ,
   ◌+◌,
+  ◌-◌,
+  ◌^◌,
   max,
   min,
   Bool,
@@ -64,6 +66,11 @@ pieces_at files (at ∷ order) =
     (if is_backwards at.range then [] else piece_of at.range (slice_get files at.place))
     ++ pieces_at files order
 
+-- the least version of the pieces
+abbrev pub oldest : List Piece → ℕ
+oldest [] = 2 ^ 64 - 1
+oldest (piece ∷ pieces) = min piece.version (oldest pieces)
+
 -- the key is in a file that is older than the version
 abbrev pub is_older : Option ℕ → ℕ → Bool
 is_older None version = false
@@ -98,6 +105,19 @@ is_due (Some since) link upto version =
 -- the link gives the version, and it is up to the last
 abbrev pub gives : LoadedLink → ℕ → ℕ → Bool
 gives link upto version = is_within link.from (min link.to (upto + 1)) version
+
+-- some batch is past the version, and the link gives it
+abbrev pub some_batch_past : ℕ → LoadedLink → List Batch → ℕ → Bool
+some_batch_past version link [] upto = false
+some_batch_past version link (batch ∷ batches) upto =
+    (nat_lt version batch.version && gives link upto batch.version)
+    || some_batch_past version link batches upto
+
+-- some link gives a batch past the version
+abbrev pub some_past : ℕ → List LoadedLink → ℕ → Bool
+some_past version [] upto = false
+some_past version (link ∷ links) upto =
+    some_batch_past version link link.chunk.batches upto || some_past version links upto
 
 -- what a link's batches up to the last leave at a key that has a value since a version
 abbrev pub batches_since : Option ℕ → LoadedLink → List Batch → ℕ → Bytes → Option Bytes

@@ -8,6 +8,7 @@ mod order;
 mod overlaps;
 mod pieces;
 mod replay;
+mod stored;
 mod table;
 
 pub use laws::overlap_law;

@@ -7,9 +7,10 @@ ghost use Rattle.restore_apply.specs.declared.meaning.LoadFault.TheVariants as f
 
 use crate::order::ordered;
 use crate::overlaps::first_overlap;
-use crate::pieces::pieces_of;
-use crate::replay::replay;
-use crate::table::{pairs_of, values_of};
+use crate::pieces::{oldest, pieces_of};
+use crate::replay::{replay, some_past};
+use crate::stored::stored;
+use crate::table::{pairs_of, table_of};
 use crate::{At, Loaded};
 use fb_bytes::{Blob, Pairs};
 use std::alloc::{AllocError, AllocFailed, Global};
@@ -75,8 +76,13 @@ fn pairs_in(alloc: Global, set: &Loaded, order: Vec<At>, version: u64) -> Result
         → value_of pairs key ≡ loaded_at set.now version key) }
 {
     let files = set.files.as_slice();
+    let links = set.links.as_slice();
+    let pairs = stored(alloc, files, &order)?;
     let pieces = pieces_of(alloc, files, order)?;
-    let mut table = values_of(alloc, files)?;
-    replay(alloc, &mut table, &pieces, set.links.as_slice(), version)?;
+    if !some_past(links, oldest(&pieces), version) {
+        return Ok(pairs);
+    }
+    let mut table = table_of(alloc, pairs)?;
+    replay(alloc, &mut table, &pieces, links, version)?;
     pairs_of(alloc, table)
 }

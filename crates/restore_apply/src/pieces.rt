@@ -47,6 +47,17 @@ pub(crate) fn pieces_of(
     Ok(pieces)
 }
 
+/// The least version of the pieces, or the greatest number.
+pub(crate) fn oldest(pieces: &[Piece]) -> u64
+    ensures { result ≡ spec.oldest pieces.now }
+{
+    let mut oldest = u64::MAX;
+    for piece in pieces {
+        oldest = oldest.min(piece.version);
+    }
+    oldest
+}
+
 /// Whether the key is in a file that is older than the version.
 pub(crate) fn is_older(pieces: &[Piece], key: &[u8], version: u64) -> bool
     requires { spec.AreLine pieces.now }

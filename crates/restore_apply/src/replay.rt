@@ -16,6 +16,30 @@ use mutations::{Batch, Mutation};
 use std::alloc::{AllocError, Global};
 use std::collections::BTreeMap;
 
+/// Whether some link gives a batch past a version, up to the last version.
+pub(crate) fn some_past(links: &[LoadedLink], version: u64, upto: u64) -> bool
+    ensures { result ≡ spec.some_past version links.now upto }
+{
+    for link in links {
+        if some_batch_past(link, version, upto) {
+            return true;
+        }
+    }
+    false
+}
+
+fn some_batch_past(link: &LoadedLink, version: u64, upto: u64) -> bool
+    ensures { result
+        ≡ spec.some_batch_past version link.now link.now.chunk.batches upto }
+{
+    for batch in link.chunk.batches.as_slice() {
+        if version < batch.version && gives(link, upto, batch.version) {
+            return true;
+        }
+    }
+    false
+}
+
 /// Makes the batches up to a version, each at the keys of the files that are older.
 pub(crate) fn replay(
     alloc: Global,

@@ -5,53 +5,29 @@ ghost use Rattle.fb_bytes.specs.Bytes.{Bytes, is_same};
 ghost use Rattle.fb_bytes.specs.Keys.{holds};
 ghost use Rattle.fb_bytes.specs.Pairs.{value_of};
 ghost use Rattle.mutations.specs.Effects.{range_of};
-ghost use Rattle.restore_apply.specs.Loaded as loaded;
-ghost use Rattle.restore_apply.specs.Tables.{found, file_in, files_in, Leaves};
+ghost use Rattle.restore_apply.specs.Tables.{found, paired, Leaves};
 
-use crate::LoadedFile;
 use fb_bytes::{Blob, Pair, Pairs, is_below};
 use std::alloc::{AllocError, Global};
 use std::collections::BTreeMap;
 
-/// The pairs of files, as far as their ranges hold the keys.
-pub(crate) fn values_of(
-    alloc: Global,
-    files: &[LoadedFile],
-) -> Result<BTreeMap<Blob, Blob>, AllocError>
-    ensures { IfOk result (λ table. (key : Bytes) → found table key ≡ files_in files.now key None) }
+/// A table of pairs.
+pub(crate) fn table_of(alloc: Global, pairs: Pairs) -> Result<BTreeMap<Blob, Blob>, AllocError>
+    ensures { IfOk result (λ table. (key : Bytes) → found table key ≡ value_of pairs key) }
 {
-    let mut table = BTreeMap::new(alloc);
-    for file in files {
-        put_pairs(&mut table, file)?;
-    }
-    Ok(table)
+    let entries = entries_of(alloc, pairs.into_vec())?;
+    // They are in order, so no place is looked for.
+    BTreeMap::from_iter(alloc, entries)
 }
 
-fn put_pairs(table: &mut BTreeMap<Blob, Blob>, file: &LoadedFile) -> Result<(), AllocError>
-    ensures { OnOk result (Leaves (file_in file.now) table.old table.new) }
+fn entries_of(alloc: Global, pairs: Vec<Pair>) -> Result<Vec<(Blob, Blob)>, AllocError>
+    ensures { IfOk result (λ entries. paired entries.items ≡ pairs.items) }
 {
-    for pair in file.body.pairs.as_slice() {
-        put_pair(table, file, pair)?;
+    let mut entries = Vec::with_capacity(alloc, pairs.len())?;
+    for pair in pairs {
+        entries.push((pair.key, pair.value))?;
     }
-    Ok(())
-}
-
-fn put_pair(
-    table: &mut BTreeMap<Blob, Blob>,
-    file: &LoadedFile,
-    pair: &Pair,
-) -> Result<(), AllocError>
-    ensures { OnOk result
-        (Leaves (λ key old. if holds (loaded.range_of file.now) pair.now.key
-        then (if is_same pair.now.key key then Some pair.now.value else old)
-        else old) table.old table.new) }
-{
-    let key = pair.key.as_slice();
-    if is_below(key, file.body.begin.as_slice()) || !is_below(key, file.body.end.as_slice()) {
-        return Ok(());
-    }
-    let value = pair.value.copy()?;
-    put(table, &pair.key, value)
+    Ok(entries)
 }
 
 /// The value of a key.

@@ -1,6 +1,3 @@
-use Rattle.std.proofs.Common.{◌≡◌, None, cond}
-use Rattle.fb_bytes.specs.Bytes.{Bytes}
-use Rattle.fb_bytes.specs.Keys.{holds}
 use Rattle.mutations.specs.Effects.{range_of}
 use Rattle.restore_apply.proofs.Tables.{clear_next, first_held}
 use Rattle.restore_apply.proofs.table.clear.Goals as goal
