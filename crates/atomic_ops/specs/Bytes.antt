@@ -1,24 +1,6 @@
 -- Strings of bytes: bit by bit, in byte order, and cut or extended to a length.
-use Rattle.std.specs.Prelude.{
-  ℕ,
-  ◌<◌,
-  Bool,
-  List,
-  ◌++◌,
-  map,
-  zip,
-  take,
-  replicate,
-  nat_eq,
-  bit_and,
-  bit_or,
-  bit_xor,
-  slice_index,
-  Option,
-  Some,
-  None,
-  if◌then◌else◌,
-}
+use Rattle.std.specs.Prelude.{ℕ, ◌<◌, Bool, List, ◌++◌, map, zip, take, replicate, nat_eq, bit_and}
+use Rattle.std.specs.Prelude.{bit_or, bit_xor, slice_index, Option, Some, None, if◌then◌else◌}
 use Rattle.std.specs.Ordering.{is_gt, nat_cmp}
 use Rattle.std.specs.Cmp.Lexicographic.{slice_cmp, pointwise}
 

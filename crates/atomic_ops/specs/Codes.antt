@@ -1,20 +1,9 @@
 -- The code and the word of each operation.
 use Rattle.std.specs.Prelude.{ℕ, List, [], ◌∷◌, find, nat_eq, codes, Option}
 use Rattle.atomic_ops.specs.declared.op.Op.{Op}
-use Rattle.atomic_ops.specs.declared.op.Op.TheVariants.{
-  Add,
-  And,
-  Or,
-  Xor,
-  AppendIfFits,
-  Max,
-  Min,
-  ByteMin,
-  ByteMax,
-  MinV2,
-  AndV2,
-  CompareAndClear,
-}
+use Rattle.atomic_ops.specs.declared.op.Op.TheVariants.{Add, And, Or, Xor, AppendIfFits, Max, Min}
+use Rattle.atomic_ops.specs.declared.op.Op.TheVariants.{ByteMin, ByteMax, MinV2, AndV2}
+use Rattle.atomic_ops.specs.declared.op.Op.TheVariants.{CompareAndClear}
 use Rattle.atomic_ops.specs.Bytes.{Bytes, is_same}
 
 -- the number that stands for an operation in a batch of mutations

@@ -1,45 +1,13 @@
 -- Laws of codes, of fitting, of bytes as numbers and of operations.
-use Rattle.std.specs.Prelude.{
-  ◌≡◌,
-  ◌≢◌,
-  ℕ,
-  ◌%◌,
-  ◌^◌,
-  ◌<◌,
-  ◌≤◌,
-  max,
-  Bool,
-  true,
-  false,
-  [],
-  length,
-  reverse,
-  slice_index,
-  unwrap_or,
-  Option,
-  Some,
-  None,
-  ◌⊎◌,
-  IfSome,
-  IsSomeAnd,
-}
+use Rattle.std.specs.Prelude.{◌≡◌, ◌≢◌, ℕ, ◌%◌, ◌^◌, ◌<◌, ◌≤◌, max, Bool, true, false, [], length}
+use Rattle.std.specs.Prelude.{reverse, slice_index, unwrap_or, Option, Some, None, ◌⊎◌, IfSome}
+use Rattle.std.specs.Prelude.{IsSomeAnd}
 use Rattle.std.specs.Ordering.{nat_cmp}
 use Rattle.std.specs.Cmp.Lexicographic.{slice_cmp}
 use Rattle.atomic_ops.specs.declared.op.Op.{Op}
-use Rattle.atomic_ops.specs.declared.op.Op.TheVariants.{
-  Add,
-  And,
-  Or,
-  Xor,
-  AppendIfFits,
-  Max,
-  Min,
-  ByteMin,
-  ByteMax,
-  MinV2,
-  AndV2,
-  CompareAndClear,
-}
+use Rattle.atomic_ops.specs.declared.op.Op.TheVariants.{Add, And, Or, Xor, AppendIfFits, Max, Min}
+use Rattle.atomic_ops.specs.declared.op.Op.TheVariants.{ByteMin, ByteMax, MinV2, AndV2}
+use Rattle.atomic_ops.specs.declared.op.Op.TheVariants.{CompareAndClear}
 use Rattle.atomic_ops.specs.Bytes.{Bytes, IsBytes, fitted}
 use Rattle.atomic_ops.specs.Codes.{code_of, word_of, op_of_code, op_of_word}
 use Rattle.atomic_ops.specs.Numbers.{number, number_bytes}

@@ -1,19 +1,6 @@
 -- Strings of bytes as whole numbers, whose lowest byte comes first.
-use Rattle.std.specs.Prelude.{
-  ℕ,
-  zero,
-  suc,
-  ◌+◌,
-  ◌*◌,
-  ◌/◌,
-  ◌%◌,
-  ◌^◌,
-  [],
-  ◌∷◌,
-  length,
-  nat_lt,
-  if◌then◌else◌,
-}
+use Rattle.std.specs.Prelude.{ℕ, zero, suc, ◌+◌, ◌*◌, ◌/◌, ◌%◌, ◌^◌, [], ◌∷◌, length, nat_lt}
+use Rattle.std.specs.Prelude.{if◌then◌else◌}
 use Rattle.atomic_ops.specs.Bytes.{Bytes}
 
 -- the number that the bytes are

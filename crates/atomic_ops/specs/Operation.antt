@@ -1,44 +1,12 @@
 -- What an atomic operation leaves at a key.
-use Rattle.std.specs.Prelude.{
-  ℕ,
-  ◌+◌,
-  [],
-  ◌++◌,
-  length,
-  nat_le,
-  option_map,
-  unwrap_or,
-  Vec,
-  Option,
-  Some,
-  None,
-  if◌then◌else◌,
-}
+use Rattle.std.specs.Prelude.{ℕ, ◌+◌, [], ◌++◌, length, nat_le, option_map, unwrap_or, Vec, Option}
+use Rattle.std.specs.Prelude.{Some, None, if◌then◌else◌}
 use Rattle.atomic_ops.specs.declared.op.Op.{Op}
-use Rattle.atomic_ops.specs.declared.op.Op.TheVariants.{
-  Add,
-  And,
-  Or,
-  Xor,
-  AppendIfFits,
-  Max,
-  Min,
-  ByteMin,
-  ByteMax,
-  MinV2,
-  AndV2,
-  CompareAndClear,
-}
-use Rattle.atomic_ops.specs.Bytes.{
-  Bytes,
-  is_same,
-  fitted,
-  bytes_and,
-  bytes_or,
-  bytes_xor,
-  earlier,
-  later,
-}
+use Rattle.atomic_ops.specs.declared.op.Op.TheVariants.{Add, And, Or, Xor, AppendIfFits, Max, Min}
+use Rattle.atomic_ops.specs.declared.op.Op.TheVariants.{ByteMin, ByteMax, MinV2, AndV2}
+use Rattle.atomic_ops.specs.declared.op.Op.TheVariants.{CompareAndClear}
+use Rattle.atomic_ops.specs.Bytes.{Bytes, is_same, fitted, bytes_and, bytes_or, bytes_xor, earlier}
+use Rattle.atomic_ops.specs.Bytes.{later}
 use Rattle.atomic_ops.specs.Numbers.{sum_bytes, greater, lesser}
 
 -- the bytes of what is left, if anything is

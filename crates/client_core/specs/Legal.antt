@@ -1,20 +1,6 @@
 -- What a history owes to a client, and its outcomes to its script.
-use Rattle.std.specs.Prelude.{
-  ◌≡◌,
-  ℕ,
-  ◌+◌,
-  Bool,
-  false,
-  List,
-  [],
-  ◌∷◌,
-  ◌++◌,
-  Option,
-  Some,
-  None,
-  if◌then◌else◌,
-  nat_eq,
-}
+use Rattle.std.specs.Prelude.{◌≡◌, ℕ, ◌+◌, Bool, false, List, [], ◌∷◌, ◌++◌, Option, Some, None}
+use Rattle.std.specs.Prelude.{if◌then◌else◌, nat_eq}
 use Rattle.mutations.specs.declared.Entry.{Entry}
 use Rattle.mutations.specs.declared.Who.{Who}
 use Rattle.mutations.specs.declared.Who.TheVariants as who

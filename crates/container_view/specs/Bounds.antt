@@ -1,31 +1,7 @@
 -- How far logs go, and the least and the greatest version that a container advertises.
-use Rattle.std.specs.Prelude.{
-  ◌≡◌,
-  ℕ,
-  zero,
-  suc,
-  ◌-◌,
-  ◌≤◌,
-  ◌↔◌,
-  max,
-  min,
-  Bool,
-  true,
-  false,
-  ◌&&◌,
-  ◌||◌,
-  List,
-  [],
-  ◌∷◌,
-  Option,
-  Some,
-  None,
-  is_some,
-  if◌then◌else◌,
-  nat_lt,
-  nat_le,
-  ◌==◌,
-}
+use Rattle.std.specs.Prelude.{◌≡◌, ℕ, zero, suc, ◌-◌, ◌≤◌, ◌↔◌, max, min, Bool, true, false, ◌&&◌}
+use Rattle.std.specs.Prelude.{◌||◌, List, [], ◌∷◌, Option, Some, None, is_some, if◌then◌else◌}
+use Rattle.std.specs.Prelude.{nat_lt, nat_le, ◌==◌}
 pub use Rattle.container_view.specs.declared.versions.Bounds.{Bounds}
 use Rattle.container_view.specs.Folder.{LogFile, ManifestFile, Folder}
 use Rattle.container_view.specs.Chain.{best_log, chain}

@@ -1,23 +1,6 @@
 -- Chains of log files: which file gives which versions.
-use Rattle.std.specs.Prelude.{
-  ℕ,
-  zero,
-  suc,
-  ◌-◌,
-  Bool,
-  ◌&&◌,
-  ◌||◌,
-  List,
-  [],
-  ◌∷◌,
-  Option,
-  Some,
-  None,
-  if◌then◌else◌,
-  nat_lt,
-  nat_le,
-  ◌==◌,
-}
+use Rattle.std.specs.Prelude.{ℕ, zero, suc, ◌-◌, Bool, ◌&&◌, ◌||◌, List, [], ◌∷◌, Option, Some}
+use Rattle.std.specs.Prelude.{None, if◌then◌else◌, nat_lt, nat_le, ◌==◌}
 use Rattle.fb_bytes.specs.Bytes.{Bytes, is_below}
 use Rattle.fb_bytes.specs.Options.{◌>>=◌, best_of}
 use Rattle.container_view.specs.Folder.{LogFile, Folder}

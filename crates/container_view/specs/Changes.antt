@@ -6,14 +6,8 @@ use Rattle.fb_bytes.specs.Options.{IsIn}
 use Rattle.mutations.specs.declared.Entry.{Entry}
 use Rattle.mutations.specs.Histories.{IsRising}
 use Rattle.container_view.specs.Folder.{RangeFile, LogFile, ManifestFile, Folder}
-use Rattle.container_view.specs.Law.{
-  Source,
-  IsHonestRange,
-  IsHonestLog,
-  IsHonestManifest,
-  IsHonest,
-  IsFaithful,
-}
+use Rattle.container_view.specs.Law.{Source, IsHonestRange, IsHonestLog, IsHonestManifest, IsHonest}
+use Rattle.container_view.specs.Law.{IsFaithful}
 
 -- many has x at some place, and few doesn't have it there
 pub record Inserts {X : Type 0} (x : X) (few many : List X) : Type 0 where

@@ -1,20 +1,6 @@
 -- What chains and the choice of a manifest are, told without the functions that compute them.
-use Rattle.std.specs.Prelude.{
-  ◌≡◌,
-  ℕ,
-  ◌<◌,
-  ◌≤◌,
-  true,
-  false,
-  ◌⊎◌,
-  List,
-  [],
-  ◌∷◌,
-  Some,
-  is_some,
-  if◌then◌else◌,
-  nat_le,
-}
+use Rattle.std.specs.Prelude.{◌≡◌, ℕ, ◌<◌, ◌≤◌, true, false, ◌⊎◌, List, [], ◌∷◌, Some, is_some}
+use Rattle.std.specs.Prelude.{if◌then◌else◌, nat_le}
 use Rattle.fb_bytes.specs.Bytes.{Bytes, is_below}
 use Rattle.fb_bytes.specs.Options.{IsIn, ◌>>=◌}
 use Rattle.container_view.specs.Folder.{LogFile, ManifestFile, Folder}

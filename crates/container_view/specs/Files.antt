@@ -7,14 +7,8 @@ use Rattle.mutations.specs.declared.Batch.{Batch}
 use Rattle.fb_outside.specs.Files.{file_of}
 use Rattle.fb_outside.specs.declared.File.{File}
 use Rattle.file_names.specs.declared.Name.{Name}
-use Rattle.file_names.specs.declared.Name.TheVariants.{
-  Range,
-  Log,
-  Manifest,
-  Unreliable,
-  Expired,
-  Other,
-}
+use Rattle.file_names.specs.declared.Name.TheVariants.{Range, Log, Manifest, Unreliable, Expired}
+use Rattle.file_names.specs.declared.Name.TheVariants.{Other}
 use Rattle.file_names.specs.Spelling.{unreliable_text}
 use Rattle.file_names.specs.Reading.{after, name_of}
 use Rattle.container_view.specs.Folder.{RangeContent, RangeFile, LogFile, ManifestFile, Folder}

@@ -7,37 +7,17 @@ use Rattle.mutations.specs.Histories.{IsRising}
 use Rattle.fb_outside.specs.Files.{AreFiles, file_of, with_file, without_file, names_in}
 use Rattle.fb_outside.specs.declared.File.{File}
 use Rattle.file_names.specs.declared.Name.{Name}
-use Rattle.file_names.specs.declared.Name.TheVariants.{
-  Range,
-  Log,
-  Manifest,
-  Unreliable,
-  Expired,
-  Other,
-}
+use Rattle.file_names.specs.declared.Name.TheVariants.{Range, Log, Manifest, Unreliable, Expired}
+use Rattle.file_names.specs.declared.Name.TheVariants.{Other}
 use Rattle.file_names.specs.Spelling.{expired_text}
 use Rattle.file_names.specs.Reading.{name_of}
 use Rattle.container_view.specs.Folder.{Folder}
-use Rattle.container_view.specs.Law.{
-  Source,
-  IsHonestRange,
-  IsHonestLog,
-  IsHonestManifest,
-  IsHonest,
-  IsFaithful,
-}
+use Rattle.container_view.specs.Law.{Source, IsHonestRange, IsHonestLog, IsHonestManifest, IsHonest}
+use Rattle.container_view.specs.Law.{IsFaithful}
 use Rattle.container_view.specs.Changes.{Grows, IsListedNowhere}
 use Rattle.container_view.specs.Property.{property_of, property_in}
-use Rattle.container_view.specs.Files.{
-  Grammars,
-  whole_name,
-  name_in,
-  inside,
-  range_file,
-  log_file,
-  manifest_file,
-  folder_in,
-}
+use Rattle.container_view.specs.Files.{Grammars, whole_name, name_in, inside, range_file, log_file}
+use Rattle.container_view.specs.Files.{manifest_file, folder_in}
 
 -- the expired end is a number, where its file is there
 abbrev pub HasExpired : Bytes → List File → Type 0

@@ -1,31 +1,11 @@
 -- The log files among names, in the order of their begins, and what is looked up in them.
-use Rattle.std.specs.Prelude.{
-  ◌≡◌,
-  ℕ,
-  ◌≤◌,
-  max,
-  List,
-  [],
-  ◌∷◌,
-  map,
-  Option,
-  Some,
-  None,
-  if◌then◌else◌,
-  nat_le,
-  nat_lt,
-}
+use Rattle.std.specs.Prelude.{◌≡◌, ℕ, ◌≤◌, max, List, [], ◌∷◌, map, Option, Some, None}
+use Rattle.std.specs.Prelude.{if◌then◌else◌, nat_le, nat_lt}
 use Rattle.std.specs.List.{flat_map}
 use Rattle.fb_bytes.specs.Bytes.{Bytes}
 use Rattle.file_names.specs.declared.Name.{Name}
-use Rattle.file_names.specs.declared.Name.TheVariants.{
-  Range,
-  Log,
-  Manifest,
-  Unreliable,
-  Expired,
-  Other,
-}
+use Rattle.file_names.specs.declared.Name.TheVariants.{Range, Log, Manifest, Unreliable, Expired}
+use Rattle.file_names.specs.declared.Name.TheVariants.{Other}
 use Rattle.file_names.specs.Reading.{name_of}
 use Rattle.container_view.specs.declared.logs.NamedLog.{NamedLog}
 use Rattle.container_view.specs.declared.logs.Run.{Run}

@@ -8,15 +8,8 @@ use Rattle.file_names.specs.Reading.{name_of}
 use Rattle.container_view.specs.Folder.{Folder}
 use Rattle.container_view.specs.Meaning.{read_range, piece_named}
 use Rattle.container_view.specs.Changes.{no_files}
-use Rattle.container_view.specs.Files.{
-  Grammars,
-  whole_name,
-  name_in,
-  has_no_slash,
-  inside,
-  range_file,
-  folder_in,
-}
+use Rattle.container_view.specs.Files.{Grammars, whole_name, name_in, has_no_slash, inside}
+use Rattle.container_view.specs.Files.{range_file, folder_in}
 
 pub record FileLaw : Type 0 where
   -- a file that was put is found, and each other name has what it had

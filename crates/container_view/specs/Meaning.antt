@@ -1,23 +1,6 @@
 -- What a container means at a version: the value of each key.
-use Rattle.std.specs.Prelude.{
-  ℕ,
-  ◌+◌,
-  max,
-  min,
-  Bool,
-  true,
-  false,
-  not,
-  ◌&&◌,
-  ◌||◌,
-  List,
-  [],
-  ◌∷◌,
-  Option,
-  Some,
-  None,
-  if◌then◌else◌,
-}
+use Rattle.std.specs.Prelude.{ℕ, ◌+◌, max, min, Bool, true, false, not, ◌&&◌, ◌||◌, List, [], ◌∷◌}
+use Rattle.std.specs.Prelude.{Option, Some, None, if◌then◌else◌}
 use Rattle.fb_bytes.specs.Bytes.{Bytes, is_same}
 use Rattle.fb_bytes.specs.declared.KeyRange.{KeyRange}
 use Rattle.fb_bytes.specs.Keys.{holds}

@@ -1,38 +1,12 @@
 -- What the names of a container's files say without their bytes.
-use Rattle.std.specs.Prelude.{
-  ◌≡◌,
-  ℕ,
-  ◌-◌,
-  max,
-  ◌==◌,
-  Bool,
-  false,
-  ◌&&◌,
-  ◌||◌,
-  List,
-  [],
-  ◌∷◌,
-  map,
-  Option,
-  Some,
-  None,
-  option_map,
-  if◌then◌else◌,
-  nat_le,
-  nat_lt,
-}
+use Rattle.std.specs.Prelude.{◌≡◌, ℕ, ◌-◌, max, ◌==◌, Bool, false, ◌&&◌, ◌||◌, List, [], ◌∷◌, map}
+use Rattle.std.specs.Prelude.{Option, Some, None, option_map, if◌then◌else◌, nat_le, nat_lt}
 use Rattle.std.specs.List.{flat_map}
 use Rattle.fb_bytes.specs.Bytes.{Bytes, is_same}
 use Rattle.fb_outside.specs.declared.File.{File}
 use Rattle.file_names.specs.declared.Name.{Name}
-use Rattle.file_names.specs.declared.Name.TheVariants.{
-  Range,
-  Log,
-  Manifest,
-  Unreliable,
-  Expired,
-  Other,
-}
+use Rattle.file_names.specs.declared.Name.TheVariants.{Range, Log, Manifest, Unreliable, Expired}
+use Rattle.file_names.specs.declared.Name.TheVariants.{Other}
 use Rattle.file_names.specs.Reading.{name_of}
 pub use Rattle.container_view.specs.declared.chaining.Link.{Link}
 use Rattle.container_view.specs.Folder.{LogFile, ManifestFile, Folder}

@@ -1,19 +1,6 @@
 -- The number that a property file holds.
-use Rattle.std.specs.Prelude.{
-  ◌≡◌,
-  ℕ,
-  ◌≤◌,
-  ◌↔◌,
-  ◌&&◌,
-  length,
-  decimal,
-  Option,
-  Some,
-  None,
-  nat_le,
-  ◌==◌,
-  if◌then◌else◌,
-}
+use Rattle.std.specs.Prelude.{◌≡◌, ℕ, ◌≤◌, ◌↔◌, ◌&&◌, length, decimal, Option, Some, None, nat_le}
+use Rattle.std.specs.Prelude.{◌==◌, if◌then◌else◌}
 use Rattle.fb_bytes.specs.Bytes.{Bytes}
 use Rattle.fb_bytes.specs.Limits.{most_number}
 use Rattle.fb_bytes.specs.Options.{◌>>=◌}

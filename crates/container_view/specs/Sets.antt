@@ -1,24 +1,6 @@
 -- What is read of a container before a version is restored, or the first fault.
-use Rattle.std.specs.Prelude.{
-  ◌≡◌,
-  ℕ,
-  ◌+◌,
-  List,
-  [],
-  ◌∷◌,
-  map,
-  false,
-  Option,
-  Some,
-  None,
-  Result,
-  Ok,
-  Err,
-  ok_or,
-  unwrap_or,
-  ◌⊎◌,
-  if◌then◌else◌,
-}
+use Rattle.std.specs.Prelude.{◌≡◌, ℕ, ◌+◌, List, [], ◌∷◌, map, false, Option, Some, None, Result}
+use Rattle.std.specs.Prelude.{Ok, Err, ok_or, unwrap_or, ◌⊎◌, if◌then◌else◌}
 use Rattle.fb_bytes.specs.Bytes.{Bytes}
 use Rattle.fb_bytes.specs.Options.{IsIn}
 pub use Rattle.fb_bytes.specs.Results.{◌>>=◌}
@@ -41,14 +23,8 @@ use Rattle.container_view.specs.Bounds.{Bounds, advertised_bounds}
 use Rattle.container_view.specs.Meaning.{Piece, Needed, piece_named, needed}
 use Rattle.container_view.specs.Contents.{file_grammars}
 use Rattle.container_view.specs.Files.{inside, folder_of, folder_in}
-use Rattle.container_view.specs.Names.{
-  Link,
-  is_named,
-  folder_named,
-  manifest_name,
-  named_links,
-  chain_named,
-}
+use Rattle.container_view.specs.Names.{Link, is_named, folder_named, manifest_name, named_links}
+use Rattle.container_view.specs.Names.{chain_named}
 use Rattle.container_view.specs.Property.{property_in}
 
 -- a failed call answers a fault of the store, want of memory, or the first fault that reading the

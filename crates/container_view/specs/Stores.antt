@@ -5,27 +5,14 @@ use Rattle.fb_bytes.specs.Bytes.{Bytes, is_same}
 use Rattle.fb_outside.specs.Files.{AreFiles, file_of, with_file, without_file}
 use Rattle.fb_outside.specs.declared.File.{File}
 use Rattle.file_names.specs.declared.Name.{Name}
-use Rattle.file_names.specs.declared.Name.TheVariants.{
-  Range,
-  Log,
-  Manifest,
-  Unreliable,
-  Expired,
-  Other,
-}
+use Rattle.file_names.specs.declared.Name.TheVariants.{Range, Log, Manifest, Unreliable, Expired}
+use Rattle.file_names.specs.declared.Name.TheVariants.{Other}
 use Rattle.file_names.specs.Spelling.{unreliable_text}
 use Rattle.file_names.specs.Reading.{name_of}
 use Rattle.container_view.specs.Folder.{RangeFile, LogFile, ManifestFile, Folder}
 use Rattle.container_view.specs.Property.{property_of}
-use Rattle.container_view.specs.Files.{
-  Grammars,
-  whole_name,
-  name_in,
-  range_file,
-  log_file,
-  manifest_file,
-  folder_in,
-}
+use Rattle.container_view.specs.Files.{Grammars, whole_name, name_in, range_file, log_file}
+use Rattle.container_view.specs.Files.{manifest_file, folder_in}
 use Rattle.container_view.specs.Changes.{Inserts}
 
 -- One of two folders has one file more than the other, by what its name says. Nothing else differs.

@@ -1,5 +1,6 @@
 -- What a commit answers, and what it leaves.
-use Rattle.std.specs.Prelude.{ℕ, ◌+◌, ◌^◌, Bool, List, [], ◌∷◌, ◌++◌, length, Option, Some, None, Result, Ok, Err, nat_le, nat_lt, if◌then◌else◌}
+use Rattle.std.specs.Prelude.{ℕ, ◌+◌, ◌^◌, Bool, List, [], ◌∷◌, ◌++◌, length, Option, Some, None}
+use Rattle.std.specs.Prelude.{Result, Ok, Err, nat_le, nat_lt, if◌then◌else◌}
 use Rattle.fb_bytes.specs.Limits.{most_number}
 use Rattle.block_frame.specs.Profiles.{key_limit_of, limit_of}
 use Rattle.mutations.specs.declared.Entry.{Entry}

@@ -2,12 +2,8 @@
 use Rattle.mutations.specs.declared.TxFault.{TxFault}
 use Rattle.mutations.specs.declared.TxFault.TheVariants as tx
 use Rattle.database.specs.declared.commit_fault.CommitFault.{CommitFault}
-use Rattle.database.specs.declared.commit_fault.CommitFault.TheVariants.{
-  Outside,
-  KeyTooLarge,
-  ValueTooLarge,
-  TooLarge,
-}
+use Rattle.database.specs.declared.commit_fault.CommitFault.TheVariants.{Outside, KeyTooLarge}
+use Rattle.database.specs.declared.commit_fault.CommitFault.TheVariants.{ValueTooLarge, TooLarge}
 
 -- a transaction's own fault as one of its commit
 abbrev pub of_transaction : TxFault → CommitFault

@@ -1,5 +1,6 @@
 -- The logs of jobs, in the order of the jobs' numbers.
-use Rattle.std.specs.Prelude.{ℕ, not, List, [], ◌∷◌, Option, Some, None, nat_eq, nat_lt, if◌then◌else◌}
+use Rattle.std.specs.Prelude.{ℕ, not, List, [], ◌∷◌, Option, Some, None, nat_eq, nat_lt}
+use Rattle.std.specs.Prelude.{if◌then◌else◌}
 use Rattle.std.specs.List.{filter}
 pub use Rattle.database.specs.declared.job_log.JobLog.{JobLog}
 

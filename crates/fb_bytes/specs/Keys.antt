@@ -1,21 +1,6 @@
 -- Keys and ranges of keys.
-use Rattle.std.specs.Prelude.{
-  ◌≡◌,
-  ◌≤◌,
-  Bool,
-  true,
-  false,
-  not,
-  ◌&&◌,
-  ◌||◌,
-  List,
-  [],
-  ◌∷◌,
-  length,
-  Option,
-  None,
-  if◌then◌else◌,
-}
+use Rattle.std.specs.Prelude.{◌≡◌, ◌≤◌, Bool, true, false, not, ◌&&◌, ◌||◌, List, [], ◌∷◌, length}
+use Rattle.std.specs.Prelude.{Option, None, if◌then◌else◌}
 use Rattle.std.specs.List.{AllByRecursion}
 pub use Rattle.fb_bytes.specs.declared.key_range.KeyRange.{KeyRange}
 use Rattle.fb_bytes.specs.Bytes.{Bytes, is_below}

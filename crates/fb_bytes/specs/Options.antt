@@ -1,18 +1,6 @@
 -- Words on options and lists that definitions of many crates are made of.
-use Rattle.std.specs.Prelude.{
-  ◌≡◌,
-  ℕ,
-  ◌+◌,
-  Bool,
-  List,
-  [],
-  ◌∷◌,
-  Option,
-  Some,
-  None,
-  ◌⊎◌,
-  if◌then◌else◌,
-}
+use Rattle.std.specs.Prelude.{◌≡◌, ℕ, ◌+◌, Bool, List, [], ◌∷◌, Option, Some, None, ◌⊎◌}
+use Rattle.std.specs.Prelude.{if◌then◌else◌}
 
 -- one of these is x
 abbrev pub IsIn : {X : Type 0} → X → List X → Type 0

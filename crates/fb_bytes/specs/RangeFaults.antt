@@ -1,12 +1,8 @@
 -- Which lists of ranges aren't taken, and for which cause.
 use Rattle.std.specs.Prelude.{ℕ, nat_lt, List, [], length, Option, Some, None, if◌then◌else◌}
 use Rattle.fb_bytes.specs.declared.range_fault.RangeFault.{RangeFault}
-use Rattle.fb_bytes.specs.declared.range_fault.RangeFault.TheVariants.{
-  Empty,
-  TooMany,
-  Backwards,
-  PastUser,
-}
+use Rattle.fb_bytes.specs.declared.range_fault.RangeFault.TheVariants.{Empty, TooMany, Backwards}
+use Rattle.fb_bytes.specs.declared.range_fault.RangeFault.TheVariants.{PastUser}
 use Rattle.fb_bytes.specs.Keys.{KeyRange, is_backwards, is_past_user}
 use Rattle.fb_bytes.specs.Options.{first_place}
 

@@ -1,29 +1,7 @@
 -- The text form of bytes: which words spell which bytes, and the one that is printed.
-use Rattle.std.specs.Prelude.{
-  ◌≡◌,
-  ℕ,
-  zero,
-  suc,
-  ◌+◌,
-  ◌*◌,
-  nat_le,
-  nat_eq,
-  Bool,
-  true,
-  not,
-  ◌&&◌,
-  [],
-  ◌∷◌,
-  ◌++◌,
-  Option,
-  Some,
-  None,
-  Result,
-  Ok,
-  Err,
-  ◌⊎◌,
-  if◌then◌else◌,
-}
+use Rattle.std.specs.Prelude.{◌≡◌, ℕ, zero, suc, ◌+◌, ◌*◌, nat_le, nat_eq, Bool, true, not, ◌&&◌}
+use Rattle.std.specs.Prelude.{[], ◌∷◌, ◌++◌, Option, Some, None, Result, Ok, Err, ◌⊎◌}
+use Rattle.std.specs.Prelude.{if◌then◌else◌}
 use Rattle.hex.specs.Hex.{hex_digit_value, encode_lower}
 use Rattle.fb_bytes.specs.declared.word_fault.WordFault.{WordFault}
 use Rattle.fb_bytes.specs.declared.word_fault.WordFault.TheVariants.{Escape, Open}

@@ -1,20 +1,6 @@
 -- The files of a store, as a list in byte order of the names.
-use Rattle.std.specs.Prelude.{
-  ◌≡◌,
-  Bool,
-  true,
-  not,
-  nat_eq,
-  List,
-  [],
-  ◌∷◌,
-  ◌++◌,
-  map,
-  Option,
-  Some,
-  None,
-  if◌then◌else◌,
-}
+use Rattle.std.specs.Prelude.{◌≡◌, Bool, true, not, nat_eq, List, [], ◌∷◌, ◌++◌, map, Option, Some}
+use Rattle.std.specs.Prelude.{None, if◌then◌else◌}
 use Rattle.std.specs.List.{filter, starts_with}
 use Rattle.fb_bytes.specs.Bytes.{Bytes, is_below, is_same}
 pub use Rattle.fb_outside.specs.declared.files.File.{File}

@@ -1,20 +1,6 @@
 -- The files that a store in memory tells: all of them, since they are in order.
-use Rattle.std.specs.Prelude.{
-  ◌≡◌,
-  Bool,
-  true,
-  false,
-  cond,
-  ◌&&◌,
-  List,
-  [],
-  ◌∷◌,
-  Option,
-  Some,
-  None,
-  if◌then◌else◌,
-  refl,
-}
+use Rattle.std.specs.Prelude.{◌≡◌, Bool, true, false, cond, ◌&&◌, List, [], ◌∷◌, Option, Some, None}
+use Rattle.std.specs.Prelude.{if◌then◌else◌, refl}
 use Rattle.std.proofs.Common.{ap}
 use Rattle.std.proofs.lemmas.Bool.{and_parts, and_from}
 use Rattle.fb_bytes.specs.Bytes.{Bytes, is_below}

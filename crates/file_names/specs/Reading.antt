@@ -1,51 +1,17 @@
 -- Reading a name from left to right.
-use Rattle.std.specs.Prelude.{
-  ℕ,
-  ◌+◌,
-  ◌*◌,
-  ◌-◌,
-  ◌/◌,
-  Bool,
-  List,
-  [],
-  ◌∷◌,
-  length,
-  take,
-  drop,
-  Option,
-  Some,
-  None,
-  nat_lt,
-  nat_le,
-  ◌&&◌,
-  ◌||◌,
-  not,
-  ◌==◌,
-  if◌then◌else◌,
-  get_or,
-}
+use Rattle.std.specs.Prelude.{ℕ, ◌+◌, ◌*◌, ◌-◌, ◌/◌, Bool, List, [], ◌∷◌, length, take, drop}
+use Rattle.std.specs.Prelude.{Option, Some, None, nat_lt, nat_le, ◌&&◌, ◌||◌, not, ◌==◌}
+use Rattle.std.specs.Prelude.{if◌then◌else◌, get_or}
 use Rattle.std.specs.List.{prefix_len}
 use Rattle.std.specs.Char.{is_ascii_digit}
 use Rattle.fb_bytes.specs.Bytes.{Bytes, is_same}
 use Rattle.fb_bytes.specs.Blocks.{is_block}
 use Rattle.fb_bytes.specs.Options.{◌>>=◌}
 use Rattle.file_names.specs.declared.name.Name.{Name}
-use Rattle.file_names.specs.declared.name.Name.TheVariants.{
-  Range,
-  Log,
-  Manifest,
-  Unreliable,
-  Expired,
-  Other,
-}
-use Rattle.file_names.specs.Spelling.{
-  is_number,
-  range_texts,
-  log_texts,
-  manifest_texts,
-  unreliable_text,
-  expired_text,
-}
+use Rattle.file_names.specs.declared.name.Name.TheVariants.{Range, Log, Manifest, Unreliable}
+use Rattle.file_names.specs.declared.name.Name.TheVariants.{Expired, Other}
+use Rattle.file_names.specs.Spelling.{is_number, range_texts, log_texts, manifest_texts}
+use Rattle.file_names.specs.Spelling.{unreliable_text, expired_text}
 
 -- what stands behind a text that the bytes begin with
 unfoldable pub after : Bytes → Bytes → Option Bytes

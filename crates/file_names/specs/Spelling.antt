@@ -1,37 +1,11 @@
 -- The names of a container's files, one spelling for each.
-use Rattle.std.specs.Prelude.{
-  ◌≡◌,
-  ℕ,
-  ◌/◌,
-  ◌^◌,
-  Bool,
-  true,
-  false,
-  List,
-  [],
-  ◌∷◌,
-  ◌++◌,
-  Option,
-  Some,
-  None,
-  nat_lt,
-  nat_le,
-  ◌&&◌,
-  if◌then◌else◌,
-  codes,
-  decimal,
-}
+use Rattle.std.specs.Prelude.{◌≡◌, ℕ, ◌/◌, ◌^◌, Bool, true, false, List, [], ◌∷◌, ◌++◌, Option}
+use Rattle.std.specs.Prelude.{Some, None, nat_lt, nat_le, ◌&&◌, if◌then◌else◌, codes, decimal}
 use Rattle.fb_bytes.specs.Bytes.{Bytes}
 use Rattle.fb_bytes.specs.Blocks.{is_block}
 pub use Rattle.file_names.specs.declared.name.Name.{Name}
-use Rattle.file_names.specs.declared.name.Name.TheVariants.{
-  Range,
-  Log,
-  Manifest,
-  Unreliable,
-  Expired,
-  Other,
-}
+use Rattle.file_names.specs.declared.name.Name.TheVariants.{Range, Log, Manifest, Unreliable}
+use Rattle.file_names.specs.declared.name.Name.TheVariants.{Expired, Other}
 
 -- numbers in names are below this
 abbrev pub number_end : ℕ

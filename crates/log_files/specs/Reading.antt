@@ -1,31 +1,7 @@
 -- Reading a log file from left to right, with the first fault that is met.
-use Rattle.std.specs.Prelude.{
-  ℕ,
-  zero,
-  suc,
-  ◌+◌,
-  ◌-◌,
-  Bool,
-  false,
-  List,
-  [],
-  ◌∷◌,
-  ◌++◌,
-  length,
-  take,
-  drop,
-  Option,
-  Some,
-  None,
-  Result,
-  Ok,
-  Err,
-  nat_le,
-  nat_lt,
-  ◌==◌,
-  ◌&&◌,
-  if◌then◌else◌,
-}
+use Rattle.std.specs.Prelude.{ℕ, zero, suc, ◌+◌, ◌-◌, Bool, false, List, [], ◌∷◌, ◌++◌, length}
+use Rattle.std.specs.Prelude.{take, drop, Option, Some, None, Result, Ok, Err, nat_le, nat_lt, ◌==◌}
+use Rattle.std.specs.Prelude.{◌&&◌, if◌then◌else◌}
 use Rattle.std.specs.Int.{w32, w64, from_be_bytes}
 use Rattle.fb_bytes.specs.Bytes.{Bytes}
 pub use Rattle.fb_bytes.specs.Results.{◌>>=◌, found_or, ok_side}

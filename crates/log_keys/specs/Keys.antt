@@ -1,19 +1,6 @@
 -- The keys under which a log keeps its parts, and their order.
-use Rattle.std.specs.Prelude.{
-  ℕ,
-  ◌<◌,
-  ◌^◌,
-  Bool,
-  nat_lt,
-  ◌==◌,
-  ◌&&◌,
-  ◌||◌,
-  [],
-  ◌∷◌,
-  ◌++◌,
-  take,
-  drop,
-}
+use Rattle.std.specs.Prelude.{ℕ, ◌<◌, ◌^◌, Bool, nat_lt, ◌==◌, ◌&&◌, ◌||◌, [], ◌∷◌, ◌++◌, take}
+use Rattle.std.specs.Prelude.{drop}
 use Rattle.std.specs.Int.{w32, w64, to_be_bytes, from_be_bytes}
 use Rattle.fb_bytes.specs.Bytes.{Bytes}
 

@@ -1,38 +1,12 @@
 -- What holds of all keys, and of all logs.
-use Rattle.std.specs.Prelude.{
-  ◌≡◌,
-  ℕ,
-  false,
-  ◌==◌,
-  ◌&&◌,
-  List,
-  [],
-  ◌∷◌,
-  ◌++◌,
-  max,
-  Some,
-  None,
-  if◌then◌else◌,
-}
+use Rattle.std.specs.Prelude.{◌≡◌, ℕ, false, ◌==◌, ◌&&◌, List, [], ◌∷◌, ◌++◌, max, Some, None}
+use Rattle.std.specs.Prelude.{if◌then◌else◌}
 use Rattle.fb_bytes.specs.Bytes.{is_below}
 use Rattle.mutations.specs.Replay.{is_within, AreRising}
 use Rattle.log_keys.specs.Keys.{Key, Fits, key_bytes, key_in, is_key_below}
-use Rattle.log_keys.specs.Logs.{
-  Standing,
-  AreOrdered,
-  IsNewest,
-  AreOfOthers,
-  stands,
-  with_one,
-  is_between,
-  is_older,
-  erased,
-  without,
-  batch_of,
-  batches_between,
-  logged_at,
-  batch_at,
-}
+use Rattle.log_keys.specs.Logs.{Standing, AreOrdered, IsNewest, AreOfOthers, stands, with_one}
+use Rattle.log_keys.specs.Logs.{is_between, is_older, erased, without, batch_of, batches_between}
+use Rattle.log_keys.specs.Logs.{logged_at, batch_at}
 
 -- the byte order of keys is the order of job, version and part
 abbrev pub KeyOrderLaw : Type 0

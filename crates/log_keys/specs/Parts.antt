@@ -1,18 +1,6 @@
 -- The parts of a batch.
-use Rattle.std.specs.Prelude.{
-  ℕ,
-  zero,
-  suc,
-  ◌+◌,
-  List,
-  [],
-  ◌∷◌,
-  length,
-  take,
-  drop,
-  nat_le,
-  if◌then◌else◌,
-}
+use Rattle.std.specs.Prelude.{ℕ, zero, suc, ◌+◌, List, [], ◌∷◌, length, take, drop, nat_le}
+use Rattle.std.specs.Prelude.{if◌then◌else◌}
 use Rattle.std.specs.List.{flat_map}
 use Rattle.fb_bytes.specs.Bytes.{Bytes}
 pub use Rattle.log_keys.specs.declared.row.Row.{Row}

@@ -2,13 +2,8 @@
 use Rattle.std.specs.Prelude.{codes}
 use Rattle.fb_bytes.specs.Bytes.{Bytes}
 use Rattle.manifests.specs.declared.fault.Field.{Field}
-use Rattle.manifests.specs.declared.fault.Field.TheVariants.{
-  BeginVersion,
-  EndVersion,
-  Files,
-  Format,
-  TotalBytes,
-}
+use Rattle.manifests.specs.declared.fault.Field.TheVariants.{BeginVersion, EndVersion, Files}
+use Rattle.manifests.specs.declared.fault.Field.TheVariants.{Format, TotalBytes}
 
 -- the key of a field
 abbrev pub word_of : Field → Bytes

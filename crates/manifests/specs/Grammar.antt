@@ -1,19 +1,8 @@
 -- The text of a manifest, over what serde_json reads.
 use Rattle.std.specs.Prelude.{◌≡◌, ℕ, List, [], ◌∷◌, Some, None, codes}
 use Rattle.std.specs.Str.{IsUtf8}
-use Rattle.serde_json.specs.Data.{
-  Data,
-  number,
-  unsigned,
-  string,
-  array,
-  object,
-  Items,
-  item,
-  no_items,
-  member,
-  no_members,
-}
+use Rattle.serde_json.specs.Data.{Data, number, unsigned, string, array, object, Items, item}
+use Rattle.serde_json.specs.Data.{no_items, member, no_members}
 use Rattle.serde_json.specs.Read.{read}
 use Rattle.serde_json.specs.Find.{get}
 use Rattle.serde_json.specs.Written.{compact_text}

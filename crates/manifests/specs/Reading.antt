@@ -1,24 +1,6 @@
 -- Reading a manifest, with the first fault that is met.
-use Rattle.std.specs.Prelude.{
-  ℕ,
-  ◌+◌,
-  Bool,
-  false,
-  List,
-  [],
-  ◌∷◌,
-  Option,
-  Some,
-  None,
-  option_and_then,
-  Result,
-  Ok,
-  Err,
-  ◌&&◌,
-  ◌==◌,
-  if◌then◌else◌,
-  codes,
-}
+use Rattle.std.specs.Prelude.{ℕ, ◌+◌, Bool, false, List, [], ◌∷◌, Option, Some, None}
+use Rattle.std.specs.Prelude.{option_and_then, Result, Ok, Err, ◌&&◌, ◌==◌, if◌then◌else◌, codes}
 use Rattle.std.specs.Str.{is_utf8}
 use Rattle.serde_json.specs.Data.{Data, Items, item, no_items}
 use Rattle.serde_json.specs.Read as json
@@ -29,21 +11,11 @@ use Rattle.fb_bytes.specs.Results.{FailsBut}
 use Rattle.file_names.specs.declared.Name.{Name}
 use Rattle.file_names.specs.declared.Name.TheVariants as names
 use Rattle.manifests.specs.declared.manifest.Manifest.{Manifest}
-use Rattle.manifests.specs.declared.fault.Field.TheVariants.{
-  BeginVersion,
-  EndVersion,
-  Files,
-  Format,
-  TotalBytes,
-}
+use Rattle.manifests.specs.declared.fault.Field.TheVariants.{BeginVersion, EndVersion, Files}
+use Rattle.manifests.specs.declared.fault.Field.TheVariants.{Format, TotalBytes}
 use Rattle.manifests.specs.declared.fault.ManifestFault.{ManifestFault}
-use Rattle.manifests.specs.declared.fault.ManifestFault.TheVariants.{
-  Json,
-  Field,
-  Order,
-  Versions,
-  NoMemory,
-}
+use Rattle.manifests.specs.declared.fault.ManifestFault.TheVariants.{Json, Field, Order, Versions}
+use Rattle.manifests.specs.declared.fault.ManifestFault.TheVariants.{NoMemory}
 use Rattle.manifests.specs.Files.{fits, span_of}
 
 -- a failed call answers want of memory, or the fault that the reading meets

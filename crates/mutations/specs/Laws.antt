@@ -1,25 +1,6 @@
 -- What holds of all mutations, histories and batches.
-use Rattle.std.specs.Prelude.{
-  ◌≡◌,
-  ℕ,
-  ◌+◌,
-  ◌-◌,
-  ◌<◌,
-  ◌≤◌,
-  ◌^◌,
-  ◌↔◌,
-  min,
-  max,
-  true,
-  false,
-  List,
-  [],
-  ◌∷◌,
-  ◌++◌,
-  length,
-  Option,
-  Err,
-}
+use Rattle.std.specs.Prelude.{◌≡◌, ℕ, ◌+◌, ◌-◌, ◌<◌, ◌≤◌, ◌^◌, ◌↔◌, min, max, true, false, List, []}
+use Rattle.std.specs.Prelude.{◌∷◌, ◌++◌, length, Option, Err}
 use Rattle.std.specs.List.{AllByRecursion}
 use Rattle.fb_bytes.specs.declared.KeyRange.{KeyRange}
 use Rattle.fb_bytes.specs.Bytes.{Bytes}
@@ -32,13 +13,8 @@ use Rattle.mutations.specs.Effects.{effect, effects, touches_key, touches}
 use Rattle.mutations.specs.Clipping.{all_clipped}
 use Rattle.mutations.specs.Replay.{is_within, replayed, AreRising}
 use Rattle.mutations.specs.Histories.{batches_of, IsRising, state_at, logged, lock_after, locked}
-use Rattle.mutations.specs.Spelling.{
-  mutations_spelling,
-  framed,
-  batch_spelling,
-  IsForward,
-  HasSpelling,
-}
+use Rattle.mutations.specs.Spelling.{mutations_spelling, framed, batch_spelling, IsForward}
+use Rattle.mutations.specs.Spelling.{HasSpelling}
 use Rattle.mutations.specs.Reading.{mutation_at, decoded}
 
 -- a mutation leaves each key that it doesn't touch

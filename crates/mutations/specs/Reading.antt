@@ -1,38 +1,13 @@
 -- Reading a batch: the list that the bytes spell, or the first fault.
-use Rattle.std.specs.Prelude.{
-  ℕ,
-  zero,
-  suc,
-  ◌-◌,
-  List,
-  [],
-  ◌∷◌,
-  length,
-  take,
-  drop,
-  Option,
-  Some,
-  None,
-  Result,
-  Ok,
-  Err,
-  nat_lt,
-  ◌==◌,
-  if◌then◌else◌,
-}
+use Rattle.std.specs.Prelude.{ℕ, zero, suc, ◌-◌, List, [], ◌∷◌, length, take, drop, Option, Some}
+use Rattle.std.specs.Prelude.{None, Result, Ok, Err, nat_lt, ◌==◌, if◌then◌else◌}
 use Rattle.fb_bytes.specs.Bytes.{Bytes, is_below}
 pub use Rattle.fb_bytes.specs.Results.{◌>>=◌, found_or}
 use Rattle.fb_bytes.specs.Results.{GivesBut}
 use Rattle.atomic_ops.specs.Codes.{op_of_code}
 use Rattle.mutations.specs.declared.wire_fault.WireFault.{WireFault}
-use Rattle.mutations.specs.declared.wire_fault.WireFault.TheVariants.{
-  Short,
-  Protocol,
-  Length,
-  Code,
-  Backwards,
-  NoMemory,
-}
+use Rattle.mutations.specs.declared.wire_fault.WireFault.TheVariants.{Short, Protocol, Length, Code}
+use Rattle.mutations.specs.declared.wire_fault.WireFault.TheVariants.{Backwards, NoMemory}
 use Rattle.mutations.specs.declared.mutation.Mutation.TheVariants.{Set, ClearRange, Atomic}
 use Rattle.mutations.specs.declared.mutation.Mutation.{Mutation}
 use Rattle.mutations.specs.Spelling.{protocol}

@@ -1,17 +1,6 @@
 -- Batches of mutations by version, and what they leave at a key.
-use Rattle.std.specs.Prelude.{
-  ℕ,
-  ◌<◌,
-  Bool,
-  ◌&&◌,
-  List,
-  [],
-  ◌∷◌,
-  Option,
-  if◌then◌else◌,
-  nat_lt,
-  nat_le,
-}
+use Rattle.std.specs.Prelude.{ℕ, ◌<◌, Bool, ◌&&◌, List, [], ◌∷◌, Option, if◌then◌else◌, nat_lt}
+use Rattle.std.specs.Prelude.{nat_le}
 use Rattle.std.specs.List.{AllByRecursion}
 use Rattle.fb_bytes.specs.Bytes.{Bytes}
 use Rattle.mutations.specs.declared.batch.Batch.{Batch}

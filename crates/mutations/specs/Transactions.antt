@@ -1,22 +1,6 @@
 -- What a transaction's keys and values say against it, before any database is looked at.
-use Rattle.std.specs.Prelude.{
-  ℕ,
-  ◌+◌,
-  Bool,
-  false,
-  not,
-  ◌||◌,
-  List,
-  [],
-  ◌∷◌,
-  ◌++◌,
-  length,
-  Option,
-  Some,
-  None,
-  nat_lt,
-  if◌then◌else◌,
-}
+use Rattle.std.specs.Prelude.{ℕ, ◌+◌, Bool, false, not, ◌||◌, List, [], ◌∷◌, ◌++◌, length, Option}
+use Rattle.std.specs.Prelude.{Some, None, nat_lt, if◌then◌else◌}
 use Rattle.std.specs.Option.{option_map}
 use Rattle.fb_bytes.specs.Bytes.{Bytes, is_below, is_same}
 use Rattle.fb_bytes.specs.Keys.{user_end}
@@ -26,12 +10,8 @@ use Rattle.mutations.specs.declared.mutation.Mutation.TheVariants.{Set, ClearRan
 use Rattle.mutations.specs.declared.tx_op.TxOp.{TxOp}
 use Rattle.mutations.specs.declared.tx_op.TxOp.TheVariants.{Get, SnapshotGet, Scan, Write}
 use Rattle.mutations.specs.declared.tx_fault.TxFault.{TxFault}
-use Rattle.mutations.specs.declared.tx_fault.TxFault.TheVariants.{
-  Outside,
-  KeyTooLarge,
-  ValueTooLarge,
-  TooLarge,
-}
+use Rattle.mutations.specs.declared.tx_fault.TxFault.TheVariants.{Outside, KeyTooLarge}
+use Rattle.mutations.specs.declared.tx_fault.TxFault.TheVariants.{ValueTooLarge, TooLarge}
 
 -- the writes, in order
 abbrev pub writes_of : List TxOp → List Mutation

@@ -98,7 +98,11 @@ fn begun_before(key: &[u8], ranges: &[KeyRange]) -> usize
 }
 
 /// What is left of a mutation in the ranges.
-pub fn clip(alloc: Global, mutation: &Mutation, ranges: &Ranges) -> Result<Seq<Mutation>, AllocError>
+pub fn clip(
+    alloc: Global,
+    mutation: &Mutation,
+    ranges: &Ranges,
+) -> Result<Seq<Mutation>, AllocError>
     ensures { IfOk result (λ muts. muts ≡ clipped ranges.now mutation.now) }
 {
     match mutation {

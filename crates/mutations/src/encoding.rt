@@ -1,9 +1,9 @@
 ghost use Rattle.std.specs.Prelude.{◌≡◌, ◌^◌, ◌<◌, ◌++◌, length, IfOk, OnOk};
 ghost use Rattle.mutations.specs.Spelling.{mutation_code, first_string, second_string, mutation_spelling, batch_spelling, HasSpelling};
 
+use crate::Mutation;
 use crate::counting::mutation_bytes;
 use crate::wire::{put_u32, put_u64};
-use crate::Mutation;
 use fb_bytes::{Blob, Seq};
 use std::alloc::{AllocError, Global};
 

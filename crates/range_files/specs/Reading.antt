@@ -1,32 +1,7 @@
 -- Reading a range file from left to right, with the first fault that is met.
-use Rattle.std.specs.Prelude.{
-  ℕ,
-  zero,
-  suc,
-  ◌+◌,
-  ◌-◌,
-  Bool,
-  true,
-  false,
-  not,
-  List,
-  [],
-  ◌∷◌,
-  ◌++◌,
-  length,
-  take,
-  drop,
-  Option,
-  Some,
-  None,
-  Result,
-  Ok,
-  Err,
-  nat_le,
-  ◌==◌,
-  ◌&&◌,
-  if◌then◌else◌,
-}
+use Rattle.std.specs.Prelude.{ℕ, zero, suc, ◌+◌, ◌-◌, Bool, true, false, not, List, [], ◌∷◌, ◌++◌}
+use Rattle.std.specs.Prelude.{length, take, drop, Option, Some, None, Result, Ok, Err, nat_le, ◌==◌}
+use Rattle.std.specs.Prelude.{◌&&◌, if◌then◌else◌}
 use Rattle.fb_bytes.specs.Bytes.{Bytes, is_below, is_same}
 pub use Rattle.fb_bytes.specs.Results.{◌>>=◌, found_or, ok_side}
 use Rattle.fb_bytes.specs.Results.{FailsBut}
@@ -35,14 +10,8 @@ use Rattle.block_frame.specs.Text.{header_at, string_at, is_over, unpadded_at}
 use Rattle.range_files.specs.declared.block.Block.{Block}
 use Rattle.range_files.specs.declared.file.RangeBody.{RangeBody}
 use Rattle.range_files.specs.declared.fault.BlockFault.{BlockFault}
-use Rattle.range_files.specs.declared.fault.BlockFault.TheVariants.{
-  Format,
-  Short,
-  Padding,
-  Order,
-  Join,
-  NoMemory,
-}
+use Rattle.range_files.specs.declared.fault.BlockFault.TheVariants.{Format, Short, Padding, Order}
+use Rattle.range_files.specs.declared.fault.BlockFault.TheVariants.{Join, NoMemory}
 use Rattle.range_files.specs.Grammar.{format}
 
 -- a failed call answers want of memory, or the fault that the reading meets

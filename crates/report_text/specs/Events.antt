@@ -1,45 +1,18 @@
 -- The lines of a schedule's events.
-use Rattle.std.specs.Prelude.{
-  List,
-  [],
-  ◌∷◌,
-  ◌++◌,
-  Option,
-  Some,
-  None,
-  Result,
-  Ok,
-  Err,
-  codes,
-  decimal,
-}
+use Rattle.std.specs.Prelude.{List, [], ◌∷◌, ◌++◌, Option, Some, None, Result, Ok, Err, codes}
+use Rattle.std.specs.Prelude.{decimal}
 use Rattle.fb_bytes.specs.Bytes.{Bytes}
 use Rattle.fb_bytes.specs.Words.{printed}
 use Rattle.workload_text.specs.declared.ScheduleLine.{ScheduleLine}
 use Rattle.workload_text.specs.declared.ScheduleLine.TheVariants.{Begin, Commit, Op}
 use Rattle.cluster_core.specs.declared.JobState.{JobState}
 use Rattle.cluster_core.specs.declared.Refusal.{Refusal}
-use Rattle.cluster_core.specs.declared.Refusal.TheVariants.{
-  TagBusy,
-  ContainerTaken,
-  ContainerInUse,
-  NoJob,
-  WrongState,
-  OutsideRanges,
-  Overlap,
-  NothingNew,
-  Untiled,
-}
+use Rattle.cluster_core.specs.declared.Refusal.TheVariants.{TagBusy, ContainerTaken, ContainerInUse}
+use Rattle.cluster_core.specs.declared.Refusal.TheVariants.{NoJob, WrongState, OutsideRanges}
+use Rattle.cluster_core.specs.declared.Refusal.TheVariants.{Overlap, NothingNew, Untiled}
 use Rattle.cluster_core.specs.declared.Answer.{Answer}
-use Rattle.cluster_core.specs.declared.Answer.TheVariants.{
-  Nothing,
-  Read,
-  Outcome,
-  Done,
-  Placed,
-  Refused,
-  State,
-}
+use Rattle.cluster_core.specs.declared.Answer.TheVariants.{Nothing, Read, Outcome, Done, Placed}
+use Rattle.cluster_core.specs.declared.Answer.TheVariants.{Refused, State}
 use Rattle.cluster_core.specs.declared.StepFault.{StepFault}
 use Rattle.cluster_core.specs.declared.StepFault.TheVariants.{VaultFault, VersionsSpent, NoMemory}
 use Rattle.workload_text.specs.declared.CommandKind.{CommandKind}

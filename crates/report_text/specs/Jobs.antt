@@ -2,14 +2,9 @@
 use Rattle.std.specs.Prelude.{ℕ, ◌+◌, List, [], ◌∷◌, ◌++◌, codes, decimal}
 use Rattle.fb_bytes.specs.Bytes.{Bytes}
 use Rattle.cluster_core.specs.declared.JobState.{JobState}
-use Rattle.cluster_core.specs.declared.JobState.TheVariants.{
-  Submitted,
-  Running,
-  RunningDifferential,
-  Completed,
-  Aborted,
-  Failed,
-}
+use Rattle.cluster_core.specs.declared.JobState.TheVariants.{Submitted, Running}
+use Rattle.cluster_core.specs.declared.JobState.TheVariants.{RunningDifferential, Completed}
+use Rattle.cluster_core.specs.declared.JobState.TheVariants.{Aborted, Failed}
 use Rattle.cluster_core.specs.Jobs.{JobTold}
 use Rattle.report_text.specs.Lines.{line}
 

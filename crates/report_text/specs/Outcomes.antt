@@ -3,15 +3,9 @@ use Rattle.std.specs.Prelude.{ℕ, ◌+◌, List, [], ◌∷◌, ◌++◌, codes
 use Rattle.std.specs.List.{flat_map}
 use Rattle.fb_bytes.specs.Bytes.{Bytes}
 use Rattle.database.specs.declared.CommitFault.{CommitFault}
-use Rattle.database.specs.declared.CommitFault.TheVariants.{
-  Outside,
-  KeyTooLarge,
-  ValueTooLarge,
-  TooLarge,
-  VersionsSpent,
-  LogTooLarge,
-  NoMemory,
-}
+use Rattle.database.specs.declared.CommitFault.TheVariants.{Outside, KeyTooLarge, ValueTooLarge}
+use Rattle.database.specs.declared.CommitFault.TheVariants.{TooLarge, VersionsSpent, LogTooLarge}
+use Rattle.database.specs.declared.CommitFault.TheVariants.{NoMemory}
 use Rattle.client_core.specs.declared.Outcome.{Outcome}
 use Rattle.client_core.specs.declared.End.{End}
 use Rattle.client_core.specs.declared.End.TheVariants.{Commit, ReadOnly, Fault}

@@ -1,21 +1,6 @@
 -- What a container's files say for a version, or the first fault.
-use Rattle.std.specs.Prelude.{
-  ℕ,
-  ◌+◌,
-  List,
-  [],
-  ◌∷◌,
-  length,
-  Option,
-  Some,
-  None,
-  Result,
-  Ok,
-  Err,
-  ok_or,
-  unwrap_or,
-  slice_get,
-}
+use Rattle.std.specs.Prelude.{ℕ, ◌+◌, List, [], ◌∷◌, length, Option, Some, None, Result, Ok, Err}
+use Rattle.std.specs.Prelude.{ok_or, unwrap_or, slice_get}
 use Rattle.fb_bytes.specs.Bytes.{Bytes}
 use Rattle.fb_outside.specs.Files.{file_of}
 use Rattle.fb_outside.specs.declared.File.{File}

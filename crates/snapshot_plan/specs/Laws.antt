@@ -1,20 +1,6 @@
 -- What the least keys are, and what the manifest of noted files is.
-use Rattle.std.specs.Prelude.{
-  ◌≡◌,
-  ◌≢◌,
-  ◌||◌,
-  ◌↔◌,
-  Bool,
-  true,
-  false,
-  not,
-  List,
-  [],
-  length,
-  sum_by,
-  Some,
-  None,
-}
+use Rattle.std.specs.Prelude.{◌≡◌, ◌≢◌, ◌||◌, ◌↔◌, Bool, true, false, not, List, [], length, sum_by}
+use Rattle.std.specs.Prelude.{Some, None}
 use Rattle.fb_bytes.specs.Bytes.{Bytes}
 use Rattle.fb_bytes.specs.declared.KeyRange.{KeyRange}
 use Rattle.fb_bytes.specs.Options.{IsIn}
@@ -22,25 +8,10 @@ use Rattle.fb_bytes.specs.Keys.{holds, in_ranges, is_backwards, AreSeparate}
 use Rattle.snapshot_plan.specs.declared.file_map.Noted.{Noted}
 use Rattle.snapshot_plan.specs.declared.fault.MapFault.TheVariants.{OutsideRanges, Overlap}
 use Rattle.snapshot_plan.specs.Pieces.{ArePieces, outside, overlap, gap_in, IsFirst, IsFirstOrNone}
-use Rattle.snapshot_plan.specs.Noted.{
-  Map,
-  pieces_of,
-  with_noted,
-  without,
-  fault_of,
-  gap,
-  manifest_of,
-}
-use Rattle.snapshot_plan.specs.Listing.{
-  noted_names,
-  IsLeastVersion,
-  IsGreatestVersion,
-  AreOrdered,
-  AreRising,
-  AreDistinct,
-  HaveRangeNames,
-  IsWritable,
-}
+use Rattle.snapshot_plan.specs.Noted.{Map, pieces_of, with_noted, without, fault_of, gap}
+use Rattle.snapshot_plan.specs.Noted.{manifest_of}
+use Rattle.snapshot_plan.specs.Listing.{noted_names, IsLeastVersion, IsGreatestVersion, AreOrdered}
+use Rattle.snapshot_plan.specs.Listing.{AreRising, AreDistinct, HaveRangeNames, IsWritable}
 
 -- the key is in no range
 abbrev pub is_out : List KeyRange → Bytes → Bool

@@ -1,21 +1,6 @@
 -- What a claim takes.
-use Rattle.std.specs.Prelude.{
-  ℕ,
-  ◌+◌,
-  Bool,
-  true,
-  not,
-  List,
-  [],
-  ◌∷◌,
-  Option,
-  Some,
-  None,
-  option_map,
-  nat_lt,
-  nat_le,
-  if◌then◌else◌,
-}
+use Rattle.std.specs.Prelude.{ℕ, ◌+◌, Bool, true, not, List, [], ◌∷◌, Option, Some, None}
+use Rattle.std.specs.Prelude.{option_map, nat_lt, nat_le, if◌then◌else◌}
 use Rattle.std.specs.List.{filter}
 use Rattle.fb_bytes.specs.Options.{best_of}
 use Rattle.task_bucket.specs.Lists.{Lease, Slot, Lists, slot_with, put_lease}

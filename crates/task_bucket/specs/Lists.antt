@@ -1,22 +1,6 @@
 -- The two lists of a bucket, each in the order of the uids.
-use Rattle.std.specs.Prelude.{
-  ℕ,
-  Bool,
-  false,
-  not,
-  ◌&&◌,
-  ◌||◌,
-  List,
-  [],
-  ◌∷◌,
-  Option,
-  Some,
-  None,
-  min,
-  nat_lt,
-  ◌==◌,
-  if◌then◌else◌,
-}
+use Rattle.std.specs.Prelude.{ℕ, Bool, false, not, ◌&&◌, ◌||◌, List, [], ◌∷◌, Option, Some, None}
+use Rattle.std.specs.Prelude.{min, nat_lt, ◌==◌, if◌then◌else◌}
 use Rattle.std.specs.List.{filter}
 use Rattle.task_kinds.specs.Tasks.{SeenTask}
 pub use Rattle.task_bucket.specs.declared.lease.Lease.{Lease}

@@ -1,31 +1,7 @@
 -- The changes of one future, as the list of futures makes them.
-use Rattle.std.specs.Prelude.{
-  ◌≡◌,
-  ℕ,
-  ◌-◌,
-  ◌<◌,
-  ◌≤◌,
-  Bool,
-  false,
-  not,
-  nat_lt,
-  ◌&&◌,
-  ◌||◌,
-  ◌==◌,
-  List,
-  [],
-  ◌∷◌,
-  ◌++◌,
-  length,
-  take,
-  drop,
-  map,
-  min,
-  Option,
-  Some,
-  None,
-  if◌then◌else◌,
-}
+use Rattle.std.specs.Prelude.{◌≡◌, ℕ, ◌-◌, ◌<◌, ◌≤◌, Bool, false, not, nat_lt, ◌&&◌, ◌||◌, ◌==◌}
+use Rattle.std.specs.Prelude.{List, [], ◌∷◌, ◌++◌, length, take, drop, map, min, Option, Some, None}
+use Rattle.std.specs.Prelude.{if◌then◌else◌}
 use Rattle.std.specs.List.{filter, prefix_len}
 use Rattle.task_futures.specs.Futures.{SeenFuture, Part, is_part, is_open, is_some_block, links_of}
 

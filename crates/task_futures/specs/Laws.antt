@@ -1,17 +1,8 @@
 -- What each list of futures keeps that the calls make, and what follows from it.
 use Rattle.std.specs.Prelude.{◌≡◌, ◌<◌, ◌&&◌, ◌||◌, ◌==◌, ℕ, Bool, false, List, [], ◌∷◌}
 use Rattle.task_kinds.specs.Tasks.{SeenTask}
-use Rattle.task_futures.specs.Futures.{
-  SeenFuture,
-  Part,
-  with_fresh,
-  with_block,
-  with_callback,
-  joined,
-  unblocked,
-  due_of,
-  without_newest,
-}
+use Rattle.task_futures.specs.Futures.{SeenFuture, Part, with_fresh, with_block, with_callback}
+use Rattle.task_futures.specs.Futures.{joined, unblocked, due_of, without_newest}
 
 -- all of these have greater numbers
 abbrev pub ArePast : ℕ → List SeenFuture → Type 0

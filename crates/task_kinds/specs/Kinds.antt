@@ -1,43 +1,15 @@
 -- The table of kinds.
-use Rattle.std.specs.Prelude.{
-  ℕ,
-  Bool,
-  true,
-  false,
-  List,
-  [],
-  ◌∷◌,
-  Option,
-  Some,
-  None,
-  codes,
-  ◌==◌,
-  if◌then◌else◌,
-}
+use Rattle.std.specs.Prelude.{ℕ, Bool, true, false, List, [], ◌∷◌, Option, Some, None, codes, ◌==◌}
+use Rattle.std.specs.Prelude.{if◌then◌else◌}
 use Rattle.task_kinds.specs.declared.kind.Kind.{Kind}
-use Rattle.task_kinds.specs.declared.kind.Kind.TheVariants.{
-  BackupStart,
-  BackupDispatch,
-  BackupRange,
-  BackupManifest,
-  BackupLogs,
-  BackupLog,
-  BackupErase,
-  BackupFinish,
-  RestoreStart,
-  RestoreDispatch,
-  RestoreRange,
-  RestoreLog,
-  RestoreApply,
-  RestoreComplete,
-  DrStart,
-  DrCopy,
-  DrLogs,
-  DrLog,
-  DrApply,
-  DrErase,
-  DrFinish,
-}
+use Rattle.task_kinds.specs.declared.kind.Kind.TheVariants.{BackupStart, BackupDispatch}
+use Rattle.task_kinds.specs.declared.kind.Kind.TheVariants.{BackupRange, BackupManifest, BackupLogs}
+use Rattle.task_kinds.specs.declared.kind.Kind.TheVariants.{BackupLog, BackupErase, BackupFinish}
+use Rattle.task_kinds.specs.declared.kind.Kind.TheVariants.{RestoreStart, RestoreDispatch}
+use Rattle.task_kinds.specs.declared.kind.Kind.TheVariants.{RestoreRange, RestoreLog, RestoreApply}
+use Rattle.task_kinds.specs.declared.kind.Kind.TheVariants.{RestoreComplete, DrStart, DrCopy}
+use Rattle.task_kinds.specs.declared.kind.Kind.TheVariants.{DrLogs, DrLog, DrApply, DrErase}
+use Rattle.task_kinds.specs.declared.kind.Kind.TheVariants.{DrFinish}
 use Rattle.task_kinds.specs.declared.kind.Shape.{Shape}
 use Rattle.task_kinds.specs.declared.kind.Shape.TheVariants as shapes
 

@@ -3,14 +3,8 @@ use Rattle.std.specs.Prelude.{ℕ, ◌<◌, ◌^◌}
 use Rattle.task_kinds.specs.declared.kind.Shape.{Shape}
 use Rattle.task_kinds.specs.declared.kind.Shape.TheVariants as shapes
 use Rattle.task_kinds.specs.declared.params.Params.{Params}
-use Rattle.task_kinds.specs.declared.params.Params.TheVariants.{
-  Nothing,
-  Piece,
-  Snapshot,
-  Span,
-  File,
-  Range,
-}
+use Rattle.task_kinds.specs.declared.params.Params.TheVariants.{Nothing, Piece, Snapshot, Span}
+use Rattle.task_kinds.specs.declared.params.Params.TheVariants.{File, Range}
 
 abbrev pub shape_in : Params → Shape
 shape_in Nothing = shapes.Nothing

@@ -1,25 +1,6 @@
 -- The one tuple of a task, and the task of a tuple.
-use Rattle.std.specs.Prelude.{
-  ◌≡◌,
-  ℕ,
-  ◌^◌,
-  Bool,
-  List,
-  [],
-  ◌∷◌,
-  Option,
-  Some,
-  None,
-  Result,
-  Ok,
-  Err,
-  ℤ,
-  pos,
-  negsuc,
-  nat_lt,
-  nat_le,
-  if◌then◌else◌,
-}
+use Rattle.std.specs.Prelude.{◌≡◌, ℕ, ◌^◌, Bool, List, [], ◌∷◌, Option, Some, None, Result, Ok, Err}
+use Rattle.std.specs.Prelude.{ℤ, pos, negsuc, nat_lt, nat_le, if◌then◌else◌}
 use Rattle.fb_bytes.specs.Options.{◌>>=◌}
 use Rattle.fb_bytes.specs.Results.{found_or}
 use Rattle.fb_bytes.specs.declared.key_range.KeyRange.{KeyRange}
@@ -29,14 +10,8 @@ use Rattle.task_kinds.specs.declared.kind.Kind.{Kind}
 use Rattle.task_kinds.specs.declared.kind.Shape.{Shape}
 use Rattle.task_kinds.specs.declared.kind.Shape.TheVariants as shapes
 use Rattle.task_kinds.specs.declared.params.Params.{Params}
-use Rattle.task_kinds.specs.declared.params.Params.TheVariants.{
-  Nothing,
-  Piece,
-  Snapshot,
-  Span,
-  File,
-  Range,
-}
+use Rattle.task_kinds.specs.declared.params.Params.TheVariants.{Nothing, Piece, Snapshot, Span}
+use Rattle.task_kinds.specs.declared.params.Params.TheVariants.{File, Range}
 use Rattle.task_kinds.specs.declared.fault.KindFault.{KindFault}
 use Rattle.task_kinds.specs.declared.fault.KindFault.TheVariants as faults
 use Rattle.task_kinds.specs.Kinds.{code_of, shape_of, kind_with}

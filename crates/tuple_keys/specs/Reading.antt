@@ -1,36 +1,7 @@
 -- Reading a tuple from left to right, with the first fault that is met.
-use Rattle.std.specs.Prelude.{
-  ℕ,
-  ◌+◌,
-  ◌*◌,
-  ◌-◌,
-  ◌^◌,
-  zero,
-  suc,
-  Bool,
-  true,
-  false,
-  ◌&&◌,
-  List,
-  [],
-  ◌∷◌,
-  length,
-  take,
-  drop,
-  Option,
-  Some,
-  None,
-  Result,
-  Ok,
-  Err,
-  nat_lt,
-  nat_le,
-  ◌==◌,
-  ℤ,
-  pos,
-  negsuc,
-  if◌then◌else◌,
-}
+use Rattle.std.specs.Prelude.{ℕ, ◌+◌, ◌*◌, ◌-◌, ◌^◌, zero, suc, Bool, true, false, ◌&&◌, List, []}
+use Rattle.std.specs.Prelude.{◌∷◌, length, take, drop, Option, Some, None, Result, Ok, Err, nat_lt}
+use Rattle.std.specs.Prelude.{nat_le, ◌==◌, ℤ, pos, negsuc, if◌then◌else◌}
 use Rattle.std.specs.Str.{is_utf8}
 use Rattle.fb_bytes.specs.Bytes.{is_same}
 use Rattle.fb_bytes.specs.Results.{◌>>=◌}

@@ -1,18 +1,6 @@
 -- The parts that a version map cuts a range into.
-use Rattle.std.specs.Prelude.{
-  ◌≡◌,
-  ℕ,
-  true,
-  false,
-  List,
-  [],
-  ◌∷◌,
-  ◌++◌,
-  Option,
-  Some,
-  None,
-  if◌then◌else◌,
-}
+use Rattle.std.specs.Prelude.{◌≡◌, ℕ, true, false, List, [], ◌∷◌, ◌++◌, Option, Some, None}
+use Rattle.std.specs.Prelude.{if◌then◌else◌}
 use Rattle.fb_bytes.specs.Bytes.{Bytes, is_below}
 use Rattle.fb_bytes.specs.declared.KeyRange.{KeyRange}
 use Rattle.fb_bytes.specs.Keys.{holds, is_backwards}

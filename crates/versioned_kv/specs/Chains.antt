@@ -1,21 +1,6 @@
 -- Keys and their versions: each key has a chain of rows, one for each version that changed it.
-use Rattle.std.specs.Prelude.{
-  ◌≡◌,
-  ℕ,
-  zero,
-  suc,
-  ◌<◌,
-  Bool,
-  true,
-  List,
-  [],
-  ◌∷◌,
-  length,
-  Option,
-  None,
-  nat_le,
-  if◌then◌else◌,
-}
+use Rattle.std.specs.Prelude.{◌≡◌, ℕ, zero, suc, ◌<◌, Bool, true, List, [], ◌∷◌, length, Option}
+use Rattle.std.specs.Prelude.{None, nat_le, if◌then◌else◌}
 use Rattle.std.specs.List.{AllByRecursion}
 use Rattle.fb_bytes.specs.Bytes.{Bytes, is_below, is_same}
 pub use Rattle.versioned_kv.specs.declared.chain.Row.{Row}

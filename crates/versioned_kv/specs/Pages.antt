@@ -1,23 +1,6 @@
 -- The first pairs of a range.
-use Rattle.std.specs.Prelude.{
-  ◌≡◌,
-  ℕ,
-  ◌≤◌,
-  Bool,
-  true,
-  ◌&&◌,
-  List,
-  [],
-  ◌∷◌,
-  ◌++◌,
-  length,
-  Option,
-  Some,
-  None,
-  is_some,
-  unwrap_or,
-  if◌then◌else◌,
-}
+use Rattle.std.specs.Prelude.{◌≡◌, ℕ, ◌≤◌, Bool, true, ◌&&◌, List, [], ◌∷◌, ◌++◌, length, Option}
+use Rattle.std.specs.Prelude.{Some, None, is_some, unwrap_or, if◌then◌else◌}
 use Rattle.fb_bytes.specs.Bytes.{Bytes, is_below}
 use Rattle.fb_bytes.specs.declared.KeyRange.{KeyRange}
 use Rattle.fb_bytes.specs.Keys.{holds}

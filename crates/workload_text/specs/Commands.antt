@@ -1,22 +1,6 @@
 -- What a command of the operator keeps.
-use Rattle.std.specs.Prelude.{
-  ◌≡◌,
-  ◌<◌,
-  ◌≤◌,
-  ℕ,
-  Bool,
-  true,
-  false,
-  not,
-  ◌&&◌,
-  ◌||◌,
-  [],
-  ◌∷◌,
-  length,
-  nat_eq,
-  nat_le,
-  List,
-}
+use Rattle.std.specs.Prelude.{◌≡◌, ◌<◌, ◌≤◌, ℕ, Bool, true, false, not, ◌&&◌, ◌||◌, [], ◌∷◌, length}
+use Rattle.std.specs.Prelude.{nat_eq, nat_le, List}
 use Rattle.std.specs.List.{list_all, AllByRecursion-prop}
 use Rattle.std.specs.Coded.{×_prop, le_prop}
 use Rattle.std.proofs.Math.Bool.{Bool-set}
@@ -25,14 +9,8 @@ use Rattle.fb_bytes.specs.Bytes.{Bytes, is_below}
 use Rattle.fb_bytes.specs.declared.KeyRange.{KeyRange}
 use Rattle.fb_bytes.specs.Keys.{is_backwards, is_past_user, BeginPast, AreSeparate, AreRanges}
 use Rattle.workload_text.specs.declared.command.Command.{Command}
-use Rattle.workload_text.specs.declared.command.Command.TheVariants.{
-  Open,
-  Dump,
-  Cut,
-  Seal,
-  Abort,
-  Status,
-}
+use Rattle.workload_text.specs.declared.command.Command.TheVariants.{Open, Dump, Cut, Seal, Abort}
+use Rattle.workload_text.specs.declared.command.Command.TheVariants.{Status}
 
 -- ---- names
 

@@ -1,21 +1,6 @@
 -- The texts that are built, and the workload that each says.
-use Rattle.std.specs.Prelude.{
-  ◌≡◌,
-  ℕ,
-  ◌+◌,
-  List,
-  [],
-  ◌∷◌,
-  Option,
-  Some,
-  None,
-  Result,
-  Ok,
-  Err,
-  length,
-  nat_lt,
-  if◌then◌else◌,
-}
+use Rattle.std.specs.Prelude.{◌≡◌, ℕ, ◌+◌, List, [], ◌∷◌, Option, Some, None, Result, Ok, Err}
+use Rattle.std.specs.Prelude.{length, nat_lt, if◌then◌else◌}
 use Rattle.fb_bytes.specs.Bytes.{Bytes}
 use Rattle.mutations.specs.declared.TxOp.{TxOp}
 use Rattle.mutations.specs.Transactions.{◌or_else◌}
@@ -30,17 +15,8 @@ use Rattle.workload_text.specs.declared.text_fault.TextFault.TheVariants.{NotBui
 use Rattle.workload_text.specs.declared.workload.Workload.{Workload}
 use Rattle.workload_text.specs.Texts.{lines_of}
 use Rattle.workload_text.specs.Lines.{Numbered, numbered}
-use Rattle.workload_text.specs.Parts.{
-  Parts,
-  parts_of,
-  txns_of,
-  first_op,
-  bad_among,
-  Operated,
-  operator_part,
-  schedule_part,
-  is_pace_line,
-}
+use Rattle.workload_text.specs.Parts.{Parts, parts_of, txns_of, first_op, bad_among, Operated}
+use Rattle.workload_text.specs.Parts.{operator_part, schedule_part, is_pace_line}
 
 -- what a text says
 pub record Built : Type 0 where

@@ -1,5 +1,6 @@
 -- What a line says.
-use Rattle.std.specs.Prelude.{ℕ, ◌+◌, max, ◌&&◌, ◌||◌, List, [], ◌∷◌, ◌++◌, length, Option, Some, None, nat_eq, codes, slice_index, if◌then◌else◌}
+use Rattle.std.specs.Prelude.{ℕ, ◌+◌, max, ◌&&◌, ◌||◌, List, [], ◌∷◌, ◌++◌, length, Option, Some}
+use Rattle.std.specs.Prelude.{None, nat_eq, codes, slice_index, if◌then◌else◌}
 use Rattle.std.specs.List.{list_all}
 use Rattle.std.specs.Result.{result_ok}
 use Rattle.atomic_ops.specs.Codes.{op_of_word}
@@ -16,28 +17,13 @@ use Rattle.mutations.specs.declared.TxOp.TheVariants.{Write}
 use Rattle.workload_text.specs.declared.client_script.Side.{Side}
 use Rattle.workload_text.specs.declared.client_script.Side.TheVariants.{Src, Dst}
 use Rattle.workload_text.specs.declared.command.Command.{Command}
-use Rattle.workload_text.specs.declared.command.Command.TheVariants.{
-  Open,
-  Dump,
-  Cut,
-  Seal,
-  Abort,
-  Status,
-}
+use Rattle.workload_text.specs.declared.command.Command.TheVariants.{Open, Dump, Cut, Seal, Abort}
+use Rattle.workload_text.specs.declared.command.Command.TheVariants.{Status}
 use Rattle.workload_text.specs.declared.schedule.ScheduleLine.TheVariants as event
 use Rattle.workload_text.specs.declared.line.Line.{Line}
-use Rattle.workload_text.specs.declared.line.Line.TheVariants.{
-  Block,
-  Pace,
-  Client,
-  Txn,
-  Op,
-  Operator,
-  Order,
-  Schedule,
-  Event,
-  Bad,
-}
+use Rattle.workload_text.specs.declared.line.Line.TheVariants.{Block, Pace, Client, Txn, Op}
+use Rattle.workload_text.specs.declared.line.Line.TheVariants.{Operator, Order, Schedule, Event}
+use Rattle.workload_text.specs.declared.line.Line.TheVariants.{Bad}
 use Rattle.workload_text.specs.Kinds.{command_word}
 use Rattle.workload_text.specs.declared.command_kind.CommandKind.TheVariants as kinds
 use Rattle.workload_text.specs.Commands.{is_container_name}

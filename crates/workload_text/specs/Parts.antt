@@ -1,44 +1,16 @@
 -- The parts of a text behind its settings: its client, its operator and its schedule; and what
 -- isn't allowed in each of them.
-use Rattle.std.specs.Prelude.{
-  ℕ,
-  ◌+◌,
-  Bool,
-  true,
-  false,
-  ◌&&◌,
-  List,
-  [],
-  ◌∷◌,
-  map,
-  take,
-  drop,
-  Option,
-  Some,
-  None,
-  is_some,
-  Result,
-  Ok,
-  Err,
-  nat_lt,
-  nat_le,
-  if◌then◌else◌,
-}
+use Rattle.std.specs.Prelude.{ℕ, ◌+◌, Bool, true, false, ◌&&◌, List, [], ◌∷◌, map, take, drop}
+use Rattle.std.specs.Prelude.{Option, Some, None, is_some, Result, Ok, Err, nat_lt, nat_le}
+use Rattle.std.specs.Prelude.{if◌then◌else◌}
 use Rattle.block_frame.specs.Profiles.{key_limit_of, limit_of}
 use Rattle.mutations.specs.declared.TxOp.{TxOp}
 use Rattle.mutations.specs.Transactions.{tx_fault, ◌or_else◌}
 use Rattle.workload_text.specs.declared.command.Command.{Command}
 use Rattle.workload_text.specs.declared.schedule.ScheduleLine.{ScheduleLine}
 use Rattle.workload_text.specs.declared.line.Line.{Line}
-use Rattle.workload_text.specs.declared.line.Line.TheVariants.{
-  Pace,
-  Txn,
-  Op,
-  Operator,
-  Order,
-  Schedule,
-  Event,
-}
+use Rattle.workload_text.specs.declared.line.Line.TheVariants.{Pace, Txn, Op, Operator, Order}
+use Rattle.workload_text.specs.declared.line.Line.TheVariants.{Schedule, Event}
 use Rattle.workload_text.specs.Lines.{Numbered}
 
 -- ---- the client's part

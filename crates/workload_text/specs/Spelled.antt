@@ -8,17 +8,8 @@ use Rattle.workload_text.specs.declared.client_script.ClientScript.{ClientScript
 use Rattle.workload_text.specs.declared.command.Command.{Command}
 use Rattle.workload_text.specs.declared.schedule.ScheduleLine.{ScheduleLine}
 use Rattle.workload_text.specs.declared.line.Line.{Line}
-use Rattle.workload_text.specs.declared.line.Line.TheVariants.{
-  Block,
-  Pace,
-  Client,
-  Txn,
-  Op,
-  Operator,
-  Order,
-  Schedule,
-  Event,
-}
+use Rattle.workload_text.specs.declared.line.Line.TheVariants.{Block, Pace, Client, Txn, Op}
+use Rattle.workload_text.specs.declared.line.Line.TheVariants.{Operator, Order, Schedule, Event}
 use Rattle.workload_text.specs.Texts.{lines_of}
 use Rattle.workload_text.specs.Lines.{Numbered, numbered}
 use Rattle.workload_text.specs.Parts.{is_refused}

@@ -1,17 +1,6 @@
 -- How a job changes by a file of it.
-use Rattle.std.specs.Prelude.{
-  ◌≡◌,
-  ℕ,
-  ◌+◌,
-  ◌<◌,
-  ◌^◌,
-  false,
-  List,
-  length,
-  Some,
-  slice_get,
-  slice_set,
-}
+use Rattle.std.specs.Prelude.{◌≡◌, ℕ, ◌+◌, ◌<◌, ◌^◌, false, List, length, Some, slice_get}
+use Rattle.std.specs.Prelude.{slice_set}
 use Rattle.fb_bytes.specs.declared.KeyRange.{KeyRange}
 use Rattle.fb_bytes.specs.Keys.{is_backwards}
 use Rattle.backup_core.specs.Hand as hands

@@ -1,5 +1,6 @@
 -- Single steps of reading a tuple.
-use Rattle.std.specs.Prelude.{ℕ, ◌-◌, zero, suc, Bool, true, false, List, [], ◌∷◌, Option, Some, None, Result, Err, ◌==◌, if◌then◌else◌}
+use Rattle.std.specs.Prelude.{ℕ, ◌-◌, zero, suc, Bool, true, false, List, [], ◌∷◌, Option, Some}
+use Rattle.std.specs.Prelude.{None, Result, Err, ◌==◌, if◌then◌else◌}
 use Rattle.fb_bytes.specs.Results.{GivesBut}
 use Rattle.tuple_keys.specs.declared.element.Element.{Element}
 use Rattle.tuple_keys.specs.declared.fault.TupleFault.{TupleFault}

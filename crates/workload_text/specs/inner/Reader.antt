@@ -1,23 +1,6 @@
 -- How the reader goes from line to line.
-use Rattle.std.specs.Prelude.{
-  ◌≡◌,
-  ℕ,
-  true,
-  ◌&&◌,
-  List,
-  [],
-  ◌∷◌,
-  ◌++◌,
-  Option,
-  Some,
-  None,
-  Result,
-  Ok,
-  Err,
-  length,
-  nat_lt,
-  if◌then◌else◌,
-}
+use Rattle.std.specs.Prelude.{◌≡◌, ℕ, true, ◌&&◌, List, [], ◌∷◌, ◌++◌, Option, Some, None, Result}
+use Rattle.std.specs.Prelude.{Ok, Err, length, nat_lt, if◌then◌else◌}
 use Rattle.std.specs.List.{AllByRecursion}
 use Rattle.block_frame.specs.Profiles.{is_block}
 use Rattle.mutations.specs.declared.TxOp.{TxOp}
@@ -25,15 +8,8 @@ use Rattle.workload_text.specs.declared.command.Command.{Command}
 use Rattle.workload_text.specs.declared.line.Line.{Line}
 use Rattle.workload_text.specs.declared.line.Line.TheVariants as line
 use Rattle.workload_text.specs.declared.reader.Place.{Place}
-use Rattle.workload_text.specs.declared.reader.Place.TheVariants.{
-  Start,
-  Block,
-  Pace,
-  Client,
-  Txn,
-  Operator,
-  Schedule,
-}
+use Rattle.workload_text.specs.declared.reader.Place.TheVariants.{Start, Block, Pace, Client, Txn}
+use Rattle.workload_text.specs.declared.reader.Place.TheVariants.{Operator, Schedule}
 use Rattle.workload_text.specs.declared.reader.Reader.{Reader}
 use Rattle.workload_text.specs.Commands.{IsCommand}
 use Rattle.workload_text.specs.Parts.{is_refused, is_short}
