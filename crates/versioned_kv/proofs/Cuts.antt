@@ -77,7 +77,7 @@ chain_rows version (suc place) (c ∷ cs) chain h u g = chain_rows version place
 
 -- ---- what is left
 
-all_with : (P : Chain → Type 0) (key : Bytes) (rows : List Row) (rest : List Chain) → P (record { key = key; rows = rows }) → AllByRecursion P rest → AllByRecursion P (with_rows key rows rest)
+pub all_with : (P : Chain → Type 0) (key : Bytes) (rows : List Row) (rest : List Chain) → P (record { key = key; rows = rows }) → AllByRecursion P rest → AllByRecursion P (with_rows key rows rest)
 all_with P key [] rest p h = h
 all_with P key (r ∷ rs) rest p h = (p, h)
 
@@ -85,7 +85,7 @@ all_left : (P : Bytes → Type 0) (version : ℕ) (chains : List Chain) → AllB
 all_left P version [] h = tt
 all_left P version (c ∷ cs) h = all_with (λ (d : Chain). P d.key) c.key (without_rows version c.rows) (without version cs) h.0 (all_left P version cs h.1)
 
-chains_with : (key : Bytes) (rows : List Row) (rest : List Chain) → AllByRecursion (λ (later : Chain). is_below key later.key ≡ true) rest → AreRising rows → AreChains rest → AreChains (with_rows key rows rest)
+pub chains_with : (key : Bytes) (rows : List Row) (rest : List Chain) → AllByRecursion (λ (later : Chain). is_below key later.key ≡ true) rest → AreRising rows → AreChains rest → AreChains (with_rows key rows rest)
 chains_with key [] rest a r h = h
 chains_with key (x ∷ xs) rest a r h = (a, omega arith, r, h)
 
@@ -93,7 +93,7 @@ pub chains_left : (version : ℕ) (chains : List Chain) → AreChains chains →
 chains_left version [] h = tt
 chains_left version (c ∷ cs) h = chains_with c.key (without_rows version c.rows) (without version cs) (all_left (λ k. is_below c.key k ≡ true) version cs h.0) (rising_without version c.rows h.2) (chains_left version cs h.3)
 
-rows_with : (key : Bytes) (rows : List Row) (rest : List Chain) (k : Bytes) → (is_same key k ≡ true → rows_of rest k ≡ []) → rows_of (with_rows key rows rest) k ≡ cond (is_same key k) rows (rows_of rest k)
+pub rows_with : (key : Bytes) (rows : List Row) (rest : List Chain) (k : Bytes) → (is_same key k ≡ true → rows_of rest k ≡ []) → rows_of (with_rows key rows rest) k ≡ cond (is_same key k) rows (rows_of rest k)
 rows_with key [] rest k f = go (is_same key k) refl
   where
     go : (b : Bool) → is_same key k ≡ b → rows_of rest k ≡ cond b [] (rows_of rest k)
@@ -159,11 +159,11 @@ value_back version at chains k h u p l = ap (λ (rs : List Row). value_in rs at 
 
 -- ---- which versions there are
 
-in_end : (x y : ℕ) (xs : List ℕ) → IsIn x (xs ++ y ∷ []) → (x ≡ y → ⊥) → IsIn x xs
+pub in_end : (x y : ℕ) (xs : List ℕ) → IsIn x (xs ++ y ∷ []) → (x ≡ y → ⊥) → IsIn x xs
 in_end x y [] h n = ⊎_elim (λ e. n e) (λ e. e) h
 in_end x y (z ∷ zs) h n = ⊎_elim (λ e. inl e) (λ e. inr (in_end x y zs e n)) h
 
-in_front : (x y : ℕ) (xs : List ℕ) → IsIn x xs → IsIn x (xs ++ y ∷ [])
+pub in_front : (x y : ℕ) (xs : List ℕ) → IsIn x xs → IsIn x (xs ++ y ∷ [])
 in_front x y [] h = absurd h
 in_front x y (z ∷ zs) h = ⊎_elim (λ e. inl e) (λ e. inr (in_front x y zs e)) h
 

@@ -10,7 +10,6 @@ use Rattle.fb_bytes.proofs.Mapped.{mapped}
 use Rattle.mutations.proofs.Basics.{by_test, all_weaker}
 use Rattle.versioned_kv.specs.Chains.{Row, Chain, AreChains, has_key_below, keys_below, value_at}
 use Rattle.versioned_kv.specs.Edits.{with_rows, without, without_rows, clear_chain, cleared_upto, all_cleared, IsClearedUpto, AreUpto, Extends}
-use Rattle.versioned_kv.specs.Forgotten.{forget_chain, all_forgotten}
 use Rattle.versioned_kv.specs.Chunks.{joined, AreFilled, AreKeysBelow, AreKeysPast, BelongsTo}
 use Rattle.versioned_kv.proofs.Search.{front_upto}
 use Rattle.versioned_kv.proofs.Clears.{AreFrom, from_drop, clear_extends, value_clear}
@@ -64,52 +63,11 @@ all_done f p i chunks rest =
     ∙ sym (p.1 (joined (take i chunks)) (joined (drop i chunks)))
     ∙ ap f (sym (cut_joined i chunks))
 
-none_left : (i : ℕ) (chunks : List (List Chain)) → length chunks ≤ i → joined (drop i chunks) ≡ []
-none_left zero [] l = refl
-none_left (suc i) [] l = refl
-none_left zero (x ∷ xs) l = absurd (omega arith)
-none_left (suc i) (x ∷ xs) l = none_left i xs (omega arith)
+-- ---- a chain in front
 
-pub each_done : (f : List Chain → List Chain) → IsByParts f → (i : ℕ) (chunks now : List (List Chain)) → now ≡ mapped f i chunks → length chunks ≤ i → joined now ≡ f (joined chunks)
-each_done f p i chunks now e l =
-    ap joined e
-    ∙ all_done f p i chunks (ap f (none_left i chunks l) ∙ p.0 ∙ sym (none_left i chunks l))
-
--- ---- a version is cut
-
-with_both : (key : Bytes) (rows : List Row) (xs ys : List Chain) → with_rows key rows (xs ++ ys) ≡ with_rows key rows xs ++ ys
+pub with_both : (key : Bytes) (rows : List Row) (xs ys : List Chain) → with_rows key rows (xs ++ ys) ≡ with_rows key rows xs ++ ys
 with_both key [] xs ys = refl
 with_both key (r ∷ rs) xs ys = refl
-
-without_both : (version : ℕ) (xs ys : List Chain) → without version (xs ++ ys) ≡ without version xs ++ without version ys
-without_both version [] ys = refl
-without_both version (x ∷ xs) ys = ap (with_rows x.key (without_rows version x.rows)) (without_both version xs ys) ∙ with_both x.key (without_rows version x.rows) (without version xs) (without version ys)
-
-pub cut_by_parts : (version : ℕ) → IsByParts (without version)
-cut_by_parts version = (refl, without_both version)
-
--- ---- older versions are forgotten
-
-forgotten_both : (oldest : ℕ) (xs ys : List Chain) → all_forgotten oldest (xs ++ ys) ≡ all_forgotten oldest xs ++ all_forgotten oldest ys
-forgotten_both oldest [] ys = refl
-forgotten_both oldest (x ∷ xs) ys = ap (λ (cs : List Chain). forget_chain oldest x ∷ cs) (forgotten_both oldest xs ys)
-
-pub forget_by_parts : (oldest : ℕ) → IsByParts (all_forgotten oldest)
-forget_by_parts oldest = (refl, forgotten_both oldest)
-
--- ---- chunks without a key go
-
-abbrev pub has_keys : List Chain → Bool
-has_keys chunk = nat_lt 0 (length chunk)
-
-pub filled_left : (chunks : List (List Chain)) → AreFilled (filter has_keys chunks)
-filled_left [] = tt
-filled_left (x ∷ xs) = by_test (has_keys x) AreFilled (x ∷ filter has_keys xs) (filter has_keys xs) (λ e. (ltb-true 0 (length x) e, filled_left xs)) (λ e. filled_left xs)
-
-pub joined_left : (chunks : List (List Chain)) → joined (filter has_keys chunks) ≡ joined chunks
-joined_left [] = refl
-joined_left ([] ∷ xs) = joined_left xs
-joined_left ((c ∷ cs) ∷ xs) = let e : has_keys (c ∷ cs) ≡ true = lt-ltb 0 (suc (length cs)) (omega arith) in rw e (ap (λ (ds : List Chain). c ∷ (cs ++ ds)) (joined_left xs))
 
 -- ---- a range is cleared
 

@@ -13,4 +13,7 @@ mod Scans
 mod Joined
 mod Everywhere
 mod Touches
+mod Changes
+mod Queues
+mod Whole
 mod Pages

@@ -23,7 +23,7 @@ fails_past test [] i x h f = omega arith
 fails_past test (y ∷ ys) zero x h f = let e : y ≡ x = cc in by_test (test y) (λ n. n ≤ zero) (suc (front_len test ys)) zero (λ t. not_both (ap test (sym e) ∙ t) f) (λ t. omega arith)
 fails_past test (y ∷ ys) (suc i) x h f = by_test (test y) (λ n. n ≤ suc i) (suc (front_len test ys)) zero (λ t. let g = fails_past test ys i x h f in omega arith) (λ t. omega arith)
 
-all_at : {A : Type 0} (P : A → Type 0) (xs : List A) (i : ℕ) (x : A) → slice_get xs i ≡ Some x → AllByRecursion P xs → P x
+pub all_at : {A : Type 0} (P : A → Type 0) (xs : List A) (i : ℕ) (x : A) → slice_get xs i ≡ Some x → AllByRecursion P xs → P x
 all_at P (y ∷ ys) zero x h a = let e : y ≡ x = cc in subst P e a.0
 all_at P (y ∷ ys) (suc i) x h a = all_at P ys i x h a.1
 all_at P [] i x h a = cc

@@ -71,7 +71,7 @@ own_rows [] h = tt
 own_rows (c ∷ cs) h = (
   (ap (λ b. cond b c.rows (rows_of cs c.key)) (same_itself c.key), h.1),
   all_two (λ (d : Chain). is_below c.key d.key ≡ true) (λ (d : Chain). (rows_of cs d.key ≡ d.rows) × (0 < length d.rows)) (λ (d : Chain). (rows_of (c ∷ cs) d.key ≡ d.rows) × (0 < length d.rows))
-  (λ d b k. (ap (λ t. cond t c.rows (rows_of cs d.key)) (below_not_same c.key d.key b) ∙ k.0, k.1)) cs h.0 (own_rows cs h.3),
+      (λ d b k. (ap (λ t. cond t c.rows (rows_of cs d.key)) (below_not_same c.key d.key b) ∙ k.0, k.1)) cs h.0 (own_rows cs h.3),
 )
 
 -- what holds of each key's rows holds of each chain

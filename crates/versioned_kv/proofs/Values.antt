@@ -21,7 +21,7 @@ none_upto version (r ∷ rs) before h e = ⊎_elim
     (λ l. let t = le-leb r.version version l in let f : suc (rows_upto version rs) ≡ zero = subst (λ b. cond b (suc (rows_upto version rs)) zero ≡ zero) t e in absurd (omega arith))
     (cases_lt version r.version)
 
-rest_upto : (version : ℕ) (r : Row) (rs : List Row) (q : ℕ) → rows_upto version (r ∷ rs) ≡ suc q → (r.version ≤ version) × (rows_upto version rs ≡ q)
+pub rest_upto : (version : ℕ) (r : Row) (rs : List Row) (q : ℕ) → rows_upto version (r ∷ rs) ≡ suc q → (r.version ≤ version) × (rows_upto version rs ≡ q)
 rest_upto version r rs q e = ⊎_elim
     (λ l. let t = lt-leb r.version version l in let f : zero ≡ suc q = subst (λ b. cond b (suc (rows_upto version rs)) zero ≡ suc q) t e in absurd (omega arith))
     (λ l. let t = le-leb r.version version l in let f : suc (rows_upto version rs) ≡ suc q = subst (λ b. cond b (suc (rows_upto version rs)) zero ≡ suc q) t e in (l, omega arith))

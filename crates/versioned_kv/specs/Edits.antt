@@ -38,6 +38,13 @@ put_at key row (chain ∷ chains) =
     then record { key = chain.key; rows = put_row row chain.rows } ∷ chains
     else record { key = key; rows = row ∷ [] } ∷ chain ∷ chains
 
+-- the chains once the rows of a key are changed, which goes with its last row
+abbrev pub changed_at : (List Row → List Row) → Bytes → List Chain → List Chain
+changed_at change key [] = []
+changed_at change key (chain ∷ chains) =
+    if is_same chain.key key then with_rows chain.key (change chain.rows) chains
+    else chain ∷ changed_at change key chains
+
 -- the row, if there is one, is of the version
 abbrev pub is_row_of : ℕ → Option Row → Bool
 is_row_of version None = false

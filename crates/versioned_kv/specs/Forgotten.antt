@@ -1,22 +1,21 @@
 -- What is left of the rows once older versions are forgotten.
-use Rattle.std.specs.Prelude.{ℕ, zero, suc, ◌-◌, List, [], ◌∷◌, drop}
-use Rattle.versioned_kv.specs.Chains.{Row, Chain, rows_upto}
+use Rattle.std.specs.Prelude.{ℕ, ◌-◌, List, [], ◌∷◌, None, drop, is_some, if◌then◌else◌}
+use Rattle.versioned_kv.specs.Chains.{Row, Chain, rows_upto, value_in}
+use Rattle.versioned_kv.specs.Edits.{with_rows}
 
--- the last row at or below the oldest version, and those past it
+-- how many rows fall: those up to the oldest version, but for the last one of them where it has a
+-- value
+abbrev pub rows_fallen : ℕ → List Row → ℕ
+rows_fallen oldest rows =
+    if is_some (value_in rows oldest None) then rows_upto oldest rows - 1
+    else rows_upto oldest rows
+
+-- the others
 abbrev pub forgotten : ℕ → List Row → List Row
-forgotten oldest rows = drop (rows_upto oldest rows - 1) rows
+forgotten oldest rows = drop (rows_fallen oldest rows) rows
 
-abbrev pub forget_chain : ℕ → Chain → Chain
-forget_chain oldest chain = record { key = chain.key; rows = forgotten oldest chain.rows }
-
--- the same for the first so many keys
-abbrev pub forgotten_upto : ℕ → ℕ → List Chain → List Chain
-forgotten_upto zero oldest chains = chains
-forgotten_upto (suc place) oldest [] = []
-forgotten_upto (suc place) oldest (chain ∷ chains) =
-    forget_chain oldest chain ∷ forgotten_upto place oldest chains
-
--- the same for each key
+-- the same for each key, which goes with its last row
 abbrev pub all_forgotten : ℕ → List Chain → List Chain
 all_forgotten oldest [] = []
-all_forgotten oldest (chain ∷ chains) = forget_chain oldest chain ∷ all_forgotten oldest chains
+all_forgotten oldest (chain ∷ chains) =
+    with_rows chain.key (forgotten oldest chain.rows) (all_forgotten oldest chains)

@@ -6,6 +6,7 @@ pub mod Chunks
 pub mod Digits
 pub mod Sound
 pub mod Forgotten
+pub mod Queued
 pub mod Pages
 pub mod Laws
 pub mod Lends

@@ -1,16 +1,18 @@
 //! Keys with their rows in chunks, so that a new key moves the keys of its own chunk alone.
 
-ghost use Rattle.std.specs.Prelude.{◌≡◌, ℕ, suc, ◌+◌, ◌-◌, ◌*◌, ◌<◌, ◌≤◌, ◌^◌, min, List, [], length, slice_get, slice_set, Some, IfOk, OnOk, OnErr};
+ghost use Rattle.std.specs.Prelude.{◌≡◌, ℕ, suc, ◌+◌, ◌-◌, ◌*◌, ◌<◌, ◌≤◌, ◌^◌, min, List, [], length, take, drop, slice_get, slice_set, Some, IfOk, OnOk, OnErr};
 ghost use Rattle.std.specs.Option.{option_copied};
 ghost use Rattle.versioned_kv.specs.declared.chain.Chain.{Chain};
 ghost use Rattle.versioned_kv.specs.Chains.{AreChains, rows_of, value_at};
 ghost use Rattle.versioned_kv.specs.Chunks.{joined, AreFilled, BelongsTo};
 ghost use Rattle.mutations.specs.Effects.{range_of};
-ghost use Rattle.versioned_kv.specs.Edits.{AreUpto, put_at, without, all_cleared, IsClearedUpto};
-ghost use Rattle.versioned_kv.specs.Forgotten.{all_forgotten};
+ghost use Rattle.versioned_kv.specs.Edits.{AreUpto, put_at, without_rows, changed_at, all_cleared, IsClearedUpto};
+ghost use Rattle.versioned_kv.specs.Forgotten.{forgotten};
+ghost use Rattle.versioned_kv.specs.Queued.{Notes, AreNoted};
 ghost use Rattle.versioned_kv.specs.Pages.{IsPage};
 
 use crate::chain::{Chain, Row};
+use crate::queue::Queue;
 use crate::table::Table;
 use crate::{Page, Steps};
 use fb_bytes::{Blob, KeyRange, Pairs, is_below};
@@ -188,12 +190,13 @@ fn put_in<L: Ledger>(
     chunk.put(key, row, steps)
 }
 
-/// Takes the values of the keys of a range away. Without memory some may be left.
+/// Takes the values of the keys of a range away, and notes these keys. Without memory some may be left.
 pub fn clear<L: Ledger>(
     chunks: &mut Vec<Table<Chain>>,
     begin: &[u8],
     end: &[u8],
     version: u64,
+    queue: &mut Queue,
     steps: &mut Steps<L>,
 ) -> Result<(), AllocError>
     requires chains { AreChains (joined chunks.old.items) }
@@ -205,6 +208,9 @@ pub fn clear<L: Ledger>(
     ensures ok { OnOk result
         (joined chunks.new.items ≡ all_cleared (range_of begin.now end.now) version
         (joined chunks.old.items)) }
+    ensures notes { Notes version queue.old queue.new }
+    ensures noted { AreNoted version (joined chunks.old.items) queue.old
+        → AreNoted version (joined chunks.new.items) queue.new }
 {
     if chunks.is_empty() {
         return Ok(());
@@ -212,7 +218,7 @@ pub fn clear<L: Ledger>(
     let first = chunk_of(chunks, begin, steps);
     let last = chunk_of(chunks, end, steps);
     for place in first..last + 1 {
-        clear_in(chunks, place, begin, end, version, steps)?;
+        clear_in(chunks, place, begin, end, version, queue, steps)?;
     }
     Ok(())
 }
@@ -224,6 +230,7 @@ fn clear_in<L: Ledger>(
     begin: &[u8],
     end: &[u8],
     version: u64,
+    queue: &mut Queue,
     steps: &mut Steps<L>,
 ) -> Result<(), AllocError>
     requires place { place < length chunks.old.items }
@@ -236,45 +243,107 @@ fn clear_in<L: Ledger>(
         → chunks.new.items
         ≡ slice_set chunks.old.items place
         (all_cleared (range_of begin.now end.now) version chunk)) }
+    ensures notes { Notes version queue.old queue.new }
+    ensures noted { AreNoted version (joined chunks.old.items) queue.old
+        → AreNoted version (joined chunks.new.items) queue.new }
 {
     let chunk = &mut chunks[place];
-    chunk.clear(begin, end, version, steps)
+    chunk.clear(begin, end, version, queue, steps)
 }
 
-/// Takes the rows of a version away, to which no row is newer. It takes no memory.
-pub fn cut_all<L: Ledger>(chunks: &mut Vec<Table<Chain>>, version: u64, steps: &mut Steps<L>)
+/// Takes the row of a version, to which no row is newer, from a key. It takes no memory.
+pub fn cut<L: Ledger>(
+    chunks: &mut Vec<Table<Chain>>,
+    key: &[u8],
+    version: u64,
+    steps: &mut Steps<L>,
+)
     requires chains { AreChains (joined chunks.old.items) }
+    requires filled { AreFilled chunks.old.items }
     requires upto { AreUpto version (joined chunks.old.items) }
     ensures filled { AreFilled chunks.new.items }
-    ensures cut { joined chunks.new.items ≡ without version (joined chunks.old.items) }
+    ensures cut { joined chunks.new.items
+        ≡ changed_at (without_rows version) key.now (joined chunks.old.items) }
 {
-    for place in 0..chunks.len() {
-        let chunk = &mut chunks[place];
-        chunk.cut_all(version, steps);
+    if chunks.is_empty() {
+        return;
     }
-    drop_empty(chunks);
+    let place = chunk_of(chunks, key, steps);
+    cut_in(chunks, place, key, version, steps);
+    drop_empty(chunks, place);
 }
 
-/// Forgets, of each key, the rows before the last one at or below the oldest version. It takes no
-/// memory.
-pub fn forget_all<L: Ledger>(chunks: &mut Vec<Table<Chain>>, oldest: u64, steps: &mut Steps<L>)
-    requires { AreChains (joined chunks.old.items) }
+/// The same in one chunk.
+fn cut_in<L: Ledger>(
+    chunks: &mut Vec<Table<Chain>>,
+    place: usize,
+    key: &[u8],
+    version: u64,
+    steps: &mut Steps<L>,
+)
+    requires place { place < length chunks.old.items }
+    requires chains { (chunk : List Chain) → slice_get chunks.old.items place ≡ Some chunk
+        → AreChains chunk × AreUpto version chunk }
+    ensures { (chunk : List Chain) → slice_get chunks.old.items place ≡ Some chunk
+        → chunks.new.items
+        ≡ slice_set chunks.old.items place
+        (changed_at (without_rows version) key.now chunk) }
+{
+    let chunk = &mut chunks[place];
+    chunk.cut(key, version, steps);
+}
+
+/// Forgets what falls of a key. It takes no memory.
+pub fn forget<L: Ledger>(
+    chunks: &mut Vec<Table<Chain>>,
+    key: &[u8],
+    oldest: u64,
+    steps: &mut Steps<L>,
+)
+    requires chains { AreChains (joined chunks.old.items) }
+    requires filled { AreFilled chunks.old.items }
     ensures filled { AreFilled chunks.new.items }
-    ensures forgotten { joined chunks.new.items ≡ all_forgotten oldest (joined chunks.old.items) }
+    ensures forgotten { joined chunks.new.items
+        ≡ changed_at (forgotten oldest) key.now (joined chunks.old.items) }
 {
-    for place in 0..chunks.len() {
-        let chunk = &mut chunks[place];
-        chunk.forget_all(oldest, steps);
+    if chunks.is_empty() {
+        return;
     }
-    drop_empty(chunks);
+    let place = chunk_of(chunks, key, steps);
+    forget_in(chunks, place, key, oldest, steps);
+    drop_empty(chunks, place);
 }
 
-/// Lets chunks without a key go.
-fn drop_empty(chunks: &mut Vec<Table<Chain>>)
+/// The same in one chunk.
+fn forget_in<L: Ledger>(
+    chunks: &mut Vec<Table<Chain>>,
+    place: usize,
+    key: &[u8],
+    oldest: u64,
+    steps: &mut Steps<L>,
+)
+    requires place { place < length chunks.old.items }
+    requires chains { (chunk : List Chain) → slice_get chunks.old.items place ≡ Some chunk
+        → AreChains chunk }
+    ensures { (chunk : List Chain) → slice_get chunks.old.items place ≡ Some chunk
+        → chunks.new.items
+        ≡ slice_set chunks.old.items place (changed_at (forgotten oldest) key.now chunk) }
+{
+    let chunk = &mut chunks[place];
+    chunk.forget(key, oldest, steps);
+}
+
+/// Lets a chunk go where it has no key.
+fn drop_empty(chunks: &mut Vec<Table<Chain>>, place: usize)
+    requires place { place < length chunks.old.items }
+    requires before { AreFilled (take place chunks.old.items) }
+    requires behind { AreFilled (drop (suc place) chunks.old.items) }
     ensures filled { AreFilled chunks.new.items }
     ensures same { joined chunks.new.items ≡ joined chunks.old.items }
 {
-    chunks.retain(|chunk| chunk.len() > 0);
+    if chunks[place].len() == 0 {
+        chunks.remove(place);
+    }
 }
 
 /// The first pairs of a range at a version, at most as many as the limit.

@@ -4,12 +4,14 @@ ghost use Rattle.fb_bytes.specs.Bytes.{Bytes, is_same};
 ghost use Rattle.fb_bytes.specs.Keys.{holds};
 ghost use Rattle.mutations.specs.Effects.{range_of};
 ghost use Rattle.versioned_kv.specs.Chains.{AreChains, rows_of, value_at};
-ghost use Rattle.versioned_kv.specs.Edits.{AreUpto, without, Extends};
+ghost use Rattle.versioned_kv.specs.Edits.{AreUpto, without_rows, changed_at, Extends};
 ghost use Rattle.versioned_kv.specs.Touched.{RowsStay, has_value_in};
-ghost use Rattle.versioned_kv.specs.Forgotten.{all_forgotten};
+ghost use Rattle.versioned_kv.specs.Forgotten.{forgotten};
+ghost use Rattle.versioned_kv.specs.Queued.{Notes, AreNoted};
 ghost use Rattle.versioned_kv.specs.Pages.{IsPage};
 
 use crate::chain::{Chain, Row};
+use crate::queue::Queue;
 use crate::table::Table;
 use crate::{Page, Steps, chunks};
 use fb_bytes::{Blob, KeyRange};
@@ -91,42 +93,46 @@ impl Keys {
         chunks::put(&mut self.chunks, key, row, steps)
     }
 
-    /// Takes the values of the keys of a range away. Without memory some may be left.
+    /// Takes the values of the keys of a range away, and notes these keys. Without memory some may be
+    /// left.
     pub fn clear<L: Ledger>(
         &mut self,
         begin: &[u8],
         end: &[u8],
         version: u64,
+        queue: &mut Queue,
         steps: &mut Steps<L>,
     ) -> Result<(), AllocError>
         requires chains { AreChains self.old }
         requires upto { AreUpto version self.old }
         ensures extends { Extends version self.old self.new }
-        ensures others
-            { RowsStay (has_value_in (range_of begin.now end.now) version self.old) self.old self.new }
+        ensures others { RowsStay (has_value_in (range_of begin.now end.now) version self.old) self.old self.new }
         ensures ok { OnOk result ((key : Bytes) → value_at self.new key version
             ≡ (if holds (range_of begin.now end.now) key then None
             else value_at self.old key version)) }
+        ensures notes { Notes version queue.old queue.new }
+        ensures noted { AreNoted version self.old queue.old → AreNoted version self.new queue.new }
     {
-        chunks::clear(&mut self.chunks, begin, end, version, steps)
+        chunks::clear(&mut self.chunks, begin, end, version, queue, steps)
     }
 
-    /// Takes the rows of a version away, to which no row is newer. It takes no memory.
-    pub fn cut_all<L: Ledger>(&mut self, version: u64, steps: &mut Steps<L>)
+    /// Takes the row of a version, to which no row is newer, from a key, which goes with its last row.
+    /// It takes no memory.
+    pub fn cut<L: Ledger>(&mut self, key: &[u8], version: u64, steps: &mut Steps<L>)
         requires chains { AreChains self.old }
         requires upto { AreUpto version self.old }
-        ensures { self.new ≡ without version self.old }
+        ensures { self.new ≡ changed_at (without_rows version) key.now self.old }
     {
-        chunks::cut_all(&mut self.chunks, version, steps);
+        chunks::cut(&mut self.chunks, key, version, steps);
     }
 
-    /// Forgets, of each key, the rows before the last one at or below the oldest version. It takes
-    /// no memory.
-    pub fn forget_all<L: Ledger>(&mut self, oldest: u64, steps: &mut Steps<L>)
+    /// Forgets the rows of a key up to the oldest version, but for the last one of them where it has a
+    /// value. A key goes with its last row. It takes no memory.
+    pub fn forget<L: Ledger>(&mut self, key: &[u8], oldest: u64, steps: &mut Steps<L>)
         requires { AreChains self.old }
-        ensures { self.new ≡ all_forgotten oldest self.old }
+        ensures { self.new ≡ changed_at (forgotten oldest) key.now self.old }
     {
-        chunks::forget_all(&mut self.chunks, oldest, steps);
+        chunks::forget(&mut self.chunks, key, oldest, steps);
     }
 
     /// The first pairs of a range at a version, at most as many as the limit.

@@ -6,6 +6,7 @@ mod chunks;
 mod keys;
 mod laws;
 mod page;
+mod queue;
 mod steps;
 mod store;
 mod table;

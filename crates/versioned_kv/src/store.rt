@@ -7,12 +7,14 @@ ghost use Rattle.versioned_kv.specs.Chains.{AreChains, rows_of, value_at};
 ghost use Rattle.versioned_kv.specs.Edits.{AreUpto, Extends, without};
 ghost use Rattle.versioned_kv.specs.Touched.{touched, RowsStay, WritesAt};
 ghost use Rattle.versioned_kv.specs.Forgotten.{all_forgotten};
+ghost use Rattle.versioned_kv.specs.Queued.{Notes, Falls, AreNoted, AreInOrder, AreDue, AreTouchesUpto, AreTouchesBelow, AreTouchesPast};
 ghost use Rattle.versioned_kv.specs.Applied.{Holds, IsPast, IsRetractable, StandsWith, applied_at, with_entry};
 ghost use Rattle.versioned_kv.specs.Sound.{AreVersions};
 ghost use Rattle.versioned_kv.specs.Pages.{IsPage};
 ghost use Rattle.versioned_kv.specs.Digits.{digits};
 
 use crate::keys::Keys;
+use crate::queue::Queue;
 use crate::writes::write_all;
 use crate::{Page, Steps};
 use fb_bytes::{KeyRange, Seq};
@@ -28,6 +30,7 @@ pub struct Store {
     oldest: u64,
     versions: Vec<u64>,
     chains: Keys,
+    queue: Queue,
 }
 
 impl Model for Store {
@@ -35,11 +38,11 @@ impl Model for Store {
 
     ghost Value = { Contents };
 
-    ghost use Rattle.versioned_kv.specs.Sound.{IsSound};
+    ghost use Rattle.versioned_kv.specs.Queued.{IsWhole};
 
     ghost view = { λ s. record { limit = s.limit; oldest = s.oldest; versions = s.versions.items; chains = s.chains } };
 
-    ghost invariant = { λ s. IsSound s.versions.items s.chains };
+    ghost invariant = { λ s. IsWhole s.versions.items s.oldest s.chains s.queue };
 }
 
 impl Store {
@@ -53,6 +56,7 @@ impl Store {
             oldest: 0,
             versions: Vec::new(alloc),
             chains: Keys::new(alloc),
+            queue: Queue::new(alloc),
         }
     }
 
@@ -125,16 +129,16 @@ impl Store {
         ensures same { OnOk result
             (StandsWith self.old (self.old.versions ++ version ∷ []) self.new) }
         ensures rows { OnOk result (without version self.new.chains ≡ self.old.chains) }
-        ensures written
-            { OnOk result (WritesAt (touched mutations.now) self.old.chains self.new.chains) }
+        ensures written { OnOk result (WritesAt (touched mutations.now) self.old.chains self.new.chains) }
         ensures err { OnErr result (self.new ≡ self.old) }
     {
         self.versions.push(version)?;
-        match write(&mut self.chains, version, mutations.as_slice(), self.limit) {
+        let (chains, queue) = (&mut self.chains, &mut self.queue);
+        match write(chains, version, mutations.as_slice(), self.limit, queue) {
             Ok(()) => Ok(()),
             Err(error) => {
                 self.versions.pop();
-                cut(&mut self.chains, version);
+                cut(&mut self.chains, version, &mut self.queue);
                 Err(error)
             }
         }
@@ -150,7 +154,7 @@ impl Store {
             } }
     {
         self.oldest = self.oldest.max(oldest);
-        forget(&mut self.chains, self.oldest);
+        forget(&mut self.chains, self.oldest, &mut self.queue);
     }
 
     /// Takes the newest entry back. It takes no memory.
@@ -162,7 +166,7 @@ impl Store {
             ++ version ∷ [] → StandsWith self.old versions self.new }
     {
         if let Some(version) = self.versions.pop() {
-            cut(&mut self.chains, version);
+            cut(&mut self.chains, version, &mut self.queue);
         }
     }
 }
@@ -202,15 +206,18 @@ fn write(
     version: u64,
     mutations: &[Mutation],
     limit: usize,
+    queue: &mut Queue,
 ) -> Result<(), AllocError>
     requires chains { AreChains chains.old }
     requires upto { AreUpto version chains.old }
     ensures extends { Extends version chains.old chains.new }
+    ensures notes { Notes version queue.old queue.new }
+    ensures noted { AreNoted version chains.old queue.old → AreNoted version chains.new queue.new }
     ensures others { OnOk result (RowsStay (touched mutations.now) chains.old chains.new) }
     ensures ok { OnOk result ((key : Bytes) → value_at chains.new key version
         ≡ effects limit mutations.now key (value_at chains.old key version)) }
 {
-    write_counted::<Brand>(chains, version, mutations, limit, Blank::new(1))
+    write_counted::<Brand>(chains, version, mutations, limit, queue, Blank::new(1))
 }
 
 fn write_counted<L: Ledger>(
@@ -218,6 +225,7 @@ fn write_counted<L: Ledger>(
     version: u64,
     mutations: &[Mutation],
     limit: usize,
+    queue: &mut Queue,
     blank: Blank,
 ) -> Result<(), AllocError>
     requires name { blank.name ≡ L.name }
@@ -226,52 +234,76 @@ fn write_counted<L: Ledger>(
     requires chains { AreChains chains.old }
     requires upto { AreUpto version chains.old }
     ensures extends { Extends version chains.old chains.new }
+    ensures notes { Notes version queue.old queue.new }
+    ensures noted { AreNoted version chains.old queue.old → AreNoted version chains.new queue.new }
     ensures others { OnOk result (RowsStay (touched mutations.now) chains.old chains.new) }
     ensures ok { OnOk result ((key : Bytes) → value_at chains.new key version
         ≡ effects limit mutations.now key (value_at chains.old key version)) }
 {
     let mut steps = Steps::<L>::new(blank);
-    write_all(chains, version, mutations, limit, &mut steps)
+    write_all(chains, version, mutations, limit, queue, &mut steps)
 }
 
-/// Takes the rows of a version away, to which no row is newer.
-fn cut(chains: &mut Keys, version: u64)
+/// Takes the rows of the newest version away, at the keys that it touched.
+fn cut(chains: &mut Keys, version: u64, queue: &mut Queue)
     requires chains { AreChains chains.old }
     requires upto { AreUpto version chains.old }
-    ensures { chains.new ≡ without version chains.old }
+    requires noted { AreNoted version chains.old queue.old }
+    requires order { AreInOrder queue.old }
+    requires newest { AreTouchesUpto version queue.old }
+    ensures chains { chains.new ≡ without version chains.old }
+    ensures notes { Notes version queue.new queue.old }
+    ensures older { AreTouchesBelow version queue.new }
 {
-    cut_counted::<Brand>(chains, version, Blank::new(1));
+    cut_counted::<Brand>(chains, version, queue, Blank::new(1));
 }
 
-fn cut_counted<L: Ledger>(chains: &mut Keys, version: u64, blank: Blank)
+fn cut_counted<L: Ledger>(chains: &mut Keys, version: u64, queue: &mut Queue, blank: Blank)
     requires name { blank.name ≡ L.name }
     requires parts { blank.parts ≡ L.parts }
     requires some { 0 < blank.parts }
     requires chains { AreChains chains.old }
     requires upto { AreUpto version chains.old }
-    ensures { chains.new ≡ without version chains.old }
+    requires noted { AreNoted version chains.old queue.old }
+    requires order { AreInOrder queue.old }
+    requires newest { AreTouchesUpto version queue.old }
+    ensures chains { chains.new ≡ without version chains.old }
+    ensures notes { Notes version queue.new queue.old }
+    ensures older { AreTouchesBelow version queue.new }
 {
     let mut steps = Steps::<L>::new(blank);
-    chains.cut_all(version, &mut steps);
+    while let Some(key) = queue.pop_newest(version) {
+        chains.cut(key.as_slice(), version, &mut steps);
+    }
 }
 
-/// Forgets the rows before the last one at or below the oldest version.
-fn forget(chains: &mut Keys, oldest: u64)
-    requires { AreChains chains.old }
-    ensures { chains.new ≡ all_forgotten oldest chains.old }
+/// Forgets the rows up to the oldest version, but for the last one of a key where it has a value.
+fn forget(chains: &mut Keys, oldest: u64, queue: &mut Queue)
+    requires chains { AreChains chains.old }
+    requires order { AreInOrder queue.old }
+    requires due { AreDue oldest chains.old queue.old }
+    ensures chains { chains.new ≡ all_forgotten oldest chains.old }
+    ensures falls { Falls oldest queue.old queue.new }
+    ensures newer { AreTouchesPast oldest queue.new }
 {
-    forget_counted::<Brand>(chains, oldest, Blank::new(1));
+    forget_counted::<Brand>(chains, oldest, queue, Blank::new(1));
 }
 
-fn forget_counted<L: Ledger>(chains: &mut Keys, oldest: u64, blank: Blank)
+fn forget_counted<L: Ledger>(chains: &mut Keys, oldest: u64, queue: &mut Queue, blank: Blank)
     requires name { blank.name ≡ L.name }
     requires parts { blank.parts ≡ L.parts }
     requires some { 0 < blank.parts }
     requires chains { AreChains chains.old }
-    ensures { chains.new ≡ all_forgotten oldest chains.old }
+    requires order { AreInOrder queue.old }
+    requires due { AreDue oldest chains.old queue.old }
+    ensures chains { chains.new ≡ all_forgotten oldest chains.old }
+    ensures falls { Falls oldest queue.old queue.new }
+    ensures newer { AreTouchesPast oldest queue.new }
 {
     let mut steps = Steps::<L>::new(blank);
-    chains.forget_all(oldest, &mut steps);
+    while let Some(key) = queue.pop_oldest(oldest) {
+        chains.forget(key.as_slice(), oldest, &mut steps);
+    }
 }
 
 /// The first pairs of a range at a version.

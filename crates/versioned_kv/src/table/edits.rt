@@ -1,15 +1,17 @@
-ghost use Rattle.std.specs.Prelude.{◌≡◌, suc, ◌-◌, ◌<◌, true, [], ◌∷◌, ◌++◌, length, take, drop, slice_get, slice_set, Some, None, IfOk, OnOk, OnErr, if◌then◌else◌};
+ghost use Rattle.std.specs.Prelude.{◌≡◌, suc, ◌-◌, ◌<◌, ◌≤◌, true, [], ◌∷◌, ◌++◌, length, take, drop, slice_get, slice_set, Some, None, IfOk, OnOk, OnErr, if◌then◌else◌};
 ghost use Rattle.fb_bytes.specs.Bytes.{Bytes, is_same};
 ghost use Rattle.fb_bytes.specs.Keys.{holds};
 ghost use Rattle.mutations.specs.Effects.{range_of};
 ghost use Rattle.versioned_kv.specs.declared.chain.Chain.{Chain};
 ghost use Rattle.versioned_kv.specs.Chains.{AreChains, AreRising, value_at};
-ghost use Rattle.versioned_kv.specs.Edits.{AreRowsUpto, AreUpto, put_row, put_at, without_rows, is_chain_of, is_row_of, clear_chain, with_rows, without, all_cleared, IsClearedUpto};
-ghost use Rattle.versioned_kv.specs.Forgotten.{forgotten, forget_chain, all_forgotten};
+ghost use Rattle.versioned_kv.specs.Edits.{AreRowsUpto, AreUpto, put_row, put_at, without_rows, is_chain_of, is_row_of, clear_chain, with_rows, changed_at, all_cleared, IsClearedUpto};
+ghost use Rattle.versioned_kv.specs.Forgotten.{rows_fallen, forgotten};
+ghost use Rattle.versioned_kv.specs.Queued.{Notes, AreNoted};
 
 use super::Table;
 use crate::Steps;
 use crate::chain::{Chain, Row};
+use crate::queue::Queue;
 use fb_bytes::{Blob, is_same};
 use std::alloc::{AllocError, Global};
 use std::sync::ledger::Ledger;
@@ -42,15 +44,30 @@ impl Table<Row> {
         }
     }
 
-    /// Forgets the rows before the last one at or below the oldest version.
+    /// Forgets the rows up to the oldest version, but for the last one of them where it has a value.
     pub fn forget<L: Ledger>(&mut self, oldest: u64, steps: &mut Steps<L>)
         requires { AreRising self.old }
         ensures { self.new ≡ forgotten oldest self.old }
     {
+        let fallen = self.fallen(oldest, steps);
+        self.drop_front(fallen);
+    }
+
+    /// How many rows fall once those before the oldest version are forgotten.
+    fn fallen<L: Ledger>(&self, oldest: u64, steps: &mut Steps<L>) -> usize
+        requires { AreRising self.now }
+        ensures count { result ≡ rows_fallen oldest self.now }
+        ensures within { result ≤ length self.now }
+    {
         let upto = self.place_past(oldest, steps);
-        if upto > 1 {
-            self.drop_front(upto - 1);
+        if upto == 0 {
+            return 0;
         }
+        let last = self.at(upto - 1, steps);
+        if last.value.is_some() {
+            return upto - 1;
+        }
+        upto
     }
 
     /// Whether the last row, if there is one, is of the version.
@@ -80,16 +97,25 @@ impl Chain {
 }
 
 impl Chain {
-    /// Takes the value away, where there is one.
-    fn clear<L: Ledger>(&mut self, version: u64, steps: &mut Steps<L>) -> Result<(), AllocError>
+    /// Takes the value away, where there is one, and notes the key.
+    fn clear<L: Ledger>(
+        &mut self,
+        version: u64,
+        queue: &mut Queue,
+        steps: &mut Steps<L>,
+    ) -> Result<(), AllocError>
         requires rising { AreRising self.old.rows }
         requires upto { AreRowsUpto version self.old.rows }
         ensures ok { OnOk result (self.new ≡ clear_chain version self.old) }
         ensures err { OnErr result (self.new ≡ self.old) }
+        ensures notes { Notes version queue.old queue.new }
+        ensures noted { AreNoted version (self.old ∷ []) queue.old
+            → AreNoted version (self.new ∷ []) queue.new }
     {
         if self.rows.value(version, steps).is_none() {
             return Ok(());
         }
+        queue.note(version, &self.key)?;
         let row = Row {
             version,
             value: None,
@@ -130,11 +156,12 @@ impl Table<Chain> {
         is_same(self.at(place, steps).key.as_slice(), key)
     }
 
-    /// Takes the value of the chain at a place away.
+    /// Takes the value of the chain at a place away, and notes its key.
     fn clear_at<L: Ledger>(
         &mut self,
         place: usize,
         version: u64,
+        queue: &mut Queue,
         steps: &mut Steps<L>,
     ) -> Result<(), AllocError>
         requires place { place < length self.old }
@@ -143,17 +170,21 @@ impl Table<Chain> {
         ensures ok { OnOk result ((chain : Chain) → slice_get self.old place ≡ Some chain
             → self.new ≡ slice_set self.old place (clear_chain version chain)) }
         ensures err { OnErr result (self.new ≡ self.old) }
+        ensures notes { Notes version queue.old queue.new }
+        ensures noted { AreNoted version self.old queue.old → AreNoted version self.new queue.new }
     {
         let chain = self.at_mut(place, steps);
-        chain.clear(version, steps)
+        chain.clear(version, queue, steps)
     }
 
-    /// Takes the values of the keys of a range away. Without memory some may be left.
+    /// Takes the values of the keys of a range away, and notes these keys. Without memory some may be
+    /// left.
     pub fn clear<L: Ledger>(
         &mut self,
         begin: &[u8],
         end: &[u8],
         version: u64,
+        queue: &mut Queue,
         steps: &mut Steps<L>,
     ) -> Result<(), AllocError>
         requires chains { AreChains self.old }
@@ -161,11 +192,13 @@ impl Table<Chain> {
         ensures part { IsClearedUpto (range_of begin.now end.now) version self.old self.new }
         ensures ok { OnOk result
             (self.new ≡ all_cleared (range_of begin.now end.now) version self.old) }
+        ensures notes { Notes version queue.old queue.new }
+        ensures noted { AreNoted version self.old queue.old → AreNoted version self.new queue.new }
     {
         let first = self.place_of(begin, steps);
         let last = self.place_of(end, steps);
         for place in first..last {
-            self.clear_at(place, version, steps)?;
+            self.clear_at(place, version, queue, steps)?;
         }
         Ok(())
     }
@@ -187,38 +220,42 @@ impl Table<Chain> {
         }
     }
 
-    /// Takes the rows of a version away, to which no row is newer. It takes no memory.
-    pub fn cut_all<L: Ledger>(&mut self, version: u64, steps: &mut Steps<L>)
+    /// Takes the row of a version, to which no row is newer, from a key. It takes no memory.
+    pub fn cut<L: Ledger>(&mut self, key: &[u8], version: u64, steps: &mut Steps<L>)
         requires chains { AreChains self.old }
         requires upto { AreUpto version self.old }
-        ensures { self.new ≡ without version self.old }
+        ensures { self.new ≡ changed_at (without_rows version) key.now self.old }
     {
-        let mut place = self.len();
-        while place > 0 {
-            place -= 1;
+        let place = self.place_of(key, steps);
+        if self.is_at(place, key, steps) {
             self.cut_at(place, version, steps);
         }
     }
 
-    /// Forgets, of the chain at a place, the rows before the last one at or below the oldest version.
+    /// Forgets what falls of the chain at a place, and the chain with its last row.
     fn forget_at<L: Ledger>(&mut self, place: usize, oldest: u64, steps: &mut Steps<L>)
         requires place { place < length self.old }
         requires rising { (chain : Chain) → slice_get self.old place ≡ Some chain
             → AreRising chain.rows }
         ensures { (chain : Chain) → slice_get self.old place ≡ Some chain
-            → self.new ≡ slice_set self.old place (forget_chain oldest chain) }
+            → self.new ≡ take place self.old
+            ++ with_rows chain.key (forgotten oldest chain.rows) (drop (suc place) self.old) }
     {
         let chain = self.at_mut(place, steps);
         chain.rows.forget(oldest, steps);
+        let is_empty = chain.rows.len() == 0;
+        if is_empty {
+            self.remove(place);
+        }
     }
 
-    /// Forgets, of each key, the rows before the last one at or below the oldest version. It takes
-    /// no memory.
-    pub fn forget_all<L: Ledger>(&mut self, oldest: u64, steps: &mut Steps<L>)
+    /// Forgets what falls of a key. It takes no memory.
+    pub fn forget<L: Ledger>(&mut self, key: &[u8], oldest: u64, steps: &mut Steps<L>)
         requires { AreChains self.old }
-        ensures { self.new ≡ all_forgotten oldest self.old }
+        ensures { self.new ≡ changed_at (forgotten oldest) key.now self.old }
     {
-        for place in 0..self.len() {
+        let place = self.place_of(key, steps);
+        if self.is_at(place, key, steps) {
             self.forget_at(place, oldest, steps);
         }
     }

@@ -4,6 +4,7 @@ use Rattle.versioned_kv.specs.Chains.{Chain}
 use Rattle.versioned_kv.specs.Edits.{clear_chain}
 use Rattle.versioned_kv.proofs.Places.{on_ok, on_err, set_same}
 use Rattle.versioned_kv.proofs.Cuts.{chain_rows}
+use Rattle.versioned_kv.proofs.Queues.{set_noted}
 use Rattle.versioned_kv.proofs.table.edits.Table+Chain.clear_at.Goals as goal
 
 pub clear-requires-clause-rising : goal.clear-requires-clause-rising
@@ -21,3 +22,6 @@ returns-clause-ok g c =
 
 pub returns-clause-err : goal.returns-clause-err
 returns-clause-err g c = on_err c.clear.result (λ e. ap (slice_set c.args.self.now c.args.place) e ∙ set_same c.args.place c.args.self.now c.at_mut-chain.result.now c.at_mut-chain.ensures.entry) c.clear.ensures.err
+
+pub returns-clause-noted : goal.returns-clause-noted
+returns-clause-noted g c = set_noted c.args.version c.args.place c.args.self.now c.at_mut-chain.result.now c.clear.new.self c.args.queue.now c.clear.new.queue c.at_mut-chain.ensures.entry c.clear.ensures.notes c.clear.ensures.noted
