@@ -1,6 +1,5 @@
 use Rattle.std.proofs.Common.{◌∙◌, ◌∷◌, [], ◌++◌, ap, sym, option_map, ℕ, ◌+◌, ◌<◌, ◌≤◌, None, arith}
-use Rattle.container_view.specs.Chain.{best_log}
-use Rattle.container_view.specs.Names.{logs_named, seen, chain_named}
+use Rattle.container_view.specs.Names.{chain_named}
 use Rattle.container_view.specs.Listed.{held, last_begun, logs_of}
 use Rattle.container_view.specs.Folder.{LogFile}
 use Rattle.container_view.proofs.Names.{onward, onward_step}
