@@ -1,5 +1,5 @@
 -- The rows of one key are changed, or those of each key.
-use Rattle.std.proofs.Common.{◌≡◌, ℕ, zero, suc, ◌<◌, ◌≤◌, Bool, true, false, cond, List, [], ◌∷◌, ◌++◌, length, Option, Some, None, take, drop, refl, sym, ap, ◌∙◌, subst, arith}
+use Rattle.std.proofs.Common.{◌≡◌, ℕ, zero, suc, ◌<◌, Bool, true, false, cond, List, [], ◌∷◌, ◌++◌, length, Option, Some, None, take, drop, refl, sym, ap, ◌∙◌, subst, arith}
 use Rattle.std.specs.List.{slice_get, slice_set, AllByRecursion}
 use Rattle.fb_bytes.specs.Bytes.{Bytes, is_below, is_same}
 use Rattle.fb_bytes.proofs.Order.{not_both, below_trans, same_eq, same_itself, below_not_same, neither_below}
@@ -12,7 +12,7 @@ use Rattle.versioned_kv.proofs.Search.{all_at}
 use Rattle.versioned_kv.proofs.Values.{above_not_same, later_keys}
 use Rattle.versioned_kv.proofs.Cuts.{all_with, chains_with, rows_with}
 use Rattle.versioned_kv.proofs.Touches.{all_two}
-use Rattle.versioned_kv.proofs.Joined.{all_parts, all_both, joined_both, parted, set_parted}
+use Rattle.versioned_kv.proofs.Joined.{all_both, joined_both, parted, set_parted}
 use Rattle.versioned_kv.proofs.Everywhere.{with_both}
 
 -- ---- at a place

@@ -9,46 +9,11 @@ use Rattle.mutations.proofs.Basics.{by_test, all_weaker}
 use Rattle.versioned_kv.specs.Chains.{Row, Chain, AreRising, AreChains, value_in, rows_of, value_at}
 use Rattle.versioned_kv.specs.Edits.{without_rows, with_rows, without, AreRowsUpto, AreUpto, Extends}
 use Rattle.versioned_kv.specs.Sound.{AreVersions, AreOf}
-use Rattle.versioned_kv.proofs.Places.{some_at}
 use Rattle.versioned_kv.proofs.Lists.{AreRowsBelow, without_below}
 use Rattle.versioned_kv.proofs.Values.{later_keys}
 use Rattle.versioned_kv.proofs.Puts.{rising_without, value_without}
 
--- ---- from the last chain to the first
-
--- the chains from a place on have lost the version
-abbrev pub cut_from : ℕ → ℕ → List Chain → List Chain
-cut_from place version chains = take place chains ++ without version (drop place chains)
-
-pub cut_there : (version place : ℕ) (chains : List Chain) → place < length chains → slice_get (cut_from (suc place) version chains) place ≡ slice_get chains place
-cut_there version place [] h = absurd (omega arith)
-cut_there version zero (c ∷ cs) h = refl
-cut_there version (suc place) (c ∷ cs) h = cut_there version place cs (omega arith)
-
-pub cut_next : (version place : ℕ) (chains : List Chain) (chain : Chain) → slice_get chains place ≡ Some chain → take place (cut_from (suc place) version chains) ++ with_rows chain.key (without_rows version chain.rows) (drop (suc place) (cut_from (suc place) version chains)) ≡ cut_from place version chains
-cut_next version place [] chain g = cc
-cut_next version zero (c ∷ cs) chain g = let same : c ≡ chain = cc in ap (λ (x : Chain). with_rows x.key (without_rows version x.rows) (without version cs)) (sym same)
-cut_next version (suc place) (c ∷ cs) chain g = ap (λ (xs : List Chain). c ∷ xs) (cut_next version place cs chain g)
-
--- a step of the loop
-pub cut_here : (version place : ℕ) (chains self : List Chain) (chain : Chain) → 0 < place → place ≤ length chains → self ≡ cut_from place version chains → slice_get self (place - 1) ≡ Some chain → slice_get chains (place - 1) ≡ Some chain
-cut_here version zero chains self chain p l e g = absurd (omega arith)
-cut_here version (suc q) chains self chain p l e g =
-    let m : suc q - 1 ≡ q = omega arith in
-    subst (λ i. slice_get chains i ≡ Some chain) (sym m) (sym (cut_there version q chains (omega arith)) ∙ ap (λ (xs : List Chain). slice_get xs q) (sym e) ∙ subst (λ i. slice_get self i ≡ Some chain) m g)
-
-pub cut_step : (version place : ℕ) (chains self new : List Chain) → 0 < place → place ≤ length chains → self ≡ cut_from place version chains → ((chain : Chain) → slice_get self (place - 1) ≡ Some chain → new ≡ take (place - 1) self ++ with_rows chain.key (without_rows version chain.rows) (drop (suc (place - 1)) self)) → new ≡ cut_from (place - 1) version chains
-cut_step version zero chains self new p l e f = absurd (omega arith)
-cut_step version (suc q) chains self new p l e f =
-    let m : suc q - 1 ≡ q = omega arith in
-    let at = some_at chains q (omega arith) in
-    let here : slice_get self q ≡ Some at.0 = ap (λ (xs : List Chain). slice_get xs q) e ∙ cut_there version q chains (omega arith) ∙ at.1 in
-    let told : new ≡ take q self ++ with_rows at.0.key (without_rows version at.0.rows) (drop (suc q) self) = subst (λ i. new ≡ take i self ++ with_rows at.0.key (without_rows version at.0.rows) (drop (suc i) self)) m (f at.0 (subst (λ i. slice_get self i ≡ Some at.0) (sym m) here)) in
-    subst (λ i. new ≡ cut_from i version chains) (sym m) (told ∙ ap (λ (xs : List Chain). take q xs ++ with_rows at.0.key (without_rows version at.0.rows) (drop (suc q) xs)) e ∙ cut_next version q chains at.0 at.1)
-
-pub cut_first : (version : ℕ) (chains : List Chain) → cut_from (length chains) version chains ≡ chains
-cut_first version [] = refl
-cut_first version (c ∷ cs) = ap (λ (xs : List Chain). c ∷ xs) (cut_first version cs)
+-- ---- one chain
 
 -- the chain goes with its last row
 pub cut_gone : (place : ℕ) (chains : List Chain) (chain : Chain) (key : Bytes) (rows : List Row) → length rows ≡ 0 → remove (slice_set chains place chain) place ≡ take place chains ++ with_rows key rows (drop (suc place) chains)

@@ -1,15 +1,14 @@
 -- What is done to each chunk in turn is done to all keys.
-use Rattle.std.proofs.Common.{◌≡◌, ℕ, zero, suc, ◌+◌, ◌<◌, ◌≤◌, Bool, true, false, not, ◌&&◌, cond, List, [], ◌∷◌, ◌++◌, length, Some, None, take, drop, filter, nat_lt, refl, sym, ap, ◌∙◌, subst, arith}
+use Rattle.std.proofs.Common.{◌≡◌, ℕ, zero, suc, ◌+◌, ◌<◌, ◌≤◌, Bool, true, false, not, ◌&&◌, cond, List, [], ◌∷◌, ◌++◌, length, Some, None, take, drop, refl, sym, ap, ◌∙◌, subst, arith}
 use Rattle.std.specs.List.{slice_get, slice_set}
-use Rattle.std.proofs.lemmas.Bool.{ltb-true, lt-ltb}
 use Rattle.fb_bytes.specs.Bytes.{Bytes, is_below}
 use Rattle.fb_bytes.specs.declared.KeyRange.{KeyRange}
 use Rattle.fb_bytes.specs.Keys.{holds}
 use Rattle.fb_bytes.proofs.Order.{below_not_back}
 use Rattle.fb_bytes.proofs.Mapped.{mapped}
-use Rattle.mutations.proofs.Basics.{by_test, all_weaker}
+use Rattle.mutations.proofs.Basics.{all_weaker}
 use Rattle.versioned_kv.specs.Chains.{Row, Chain, AreChains, has_key_below, keys_below, value_at}
-use Rattle.versioned_kv.specs.Edits.{with_rows, without, without_rows, clear_chain, cleared_upto, all_cleared, IsClearedUpto, AreUpto, Extends}
+use Rattle.versioned_kv.specs.Edits.{with_rows, clear_chain, cleared_upto, all_cleared, IsClearedUpto, AreUpto, Extends}
 use Rattle.versioned_kv.specs.Chunks.{joined, AreFilled, AreKeysBelow, AreKeysPast, BelongsTo}
 use Rattle.versioned_kv.proofs.Search.{front_upto}
 use Rattle.versioned_kv.proofs.Clears.{AreFrom, from_drop, clear_extends, value_clear}

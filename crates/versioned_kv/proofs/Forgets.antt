@@ -1,8 +1,8 @@
 -- What is forgotten leaves the later versions as they were.
-use Rattle.std.proofs.Common.{◌≡◌, ℕ, zero, suc, ◌-◌, ◌<◌, ◌≤◌, ◌⊎◌, Bool, true, false, cond, List, [], ◌∷◌, length, Option, Some, None, drop, ⊎_elim, inl, inr, refl, sym, ap, ◌∙◌, subst, arith, nat_le, is_some}
-use Rattle.std.specs.List.{slice_get, slice_set, AllByRecursion}
+use Rattle.std.proofs.Common.{◌≡◌, ℕ, zero, suc, ◌-◌, ◌<◌, ◌≤◌, ◌⊎◌, Bool, true, false, cond, List, [], ◌∷◌, Option, Some, None, drop, ⊎_elim, inl, inr, refl, sym, ap, ◌∙◌, subst, arith, is_some}
+use Rattle.std.specs.List.{slice_get, AllByRecursion}
 use Rattle.std.proofs.lemmas.Bool.{cases_lt, le-leb, lt-leb}
-use Rattle.fb_bytes.specs.Bytes.{Bytes, is_below, is_same}
+use Rattle.fb_bytes.specs.Bytes.{Bytes}
 use Rattle.fb_bytes.specs.Options.{IsIn}
 use Rattle.fb_bytes.proofs.Order.{not_both}
 use Rattle.mutations.specs.declared.batch.Batch.{Batch}
@@ -12,7 +12,7 @@ use Rattle.versioned_kv.specs.Forgotten.{rows_fallen, forgotten, all_forgotten}
 use Rattle.versioned_kv.specs.Sound.{AreOf}
 use Rattle.versioned_kv.specs.Applied.{Holds}
 use Rattle.versioned_kv.proofs.Values.{later_rows, no_value, value_there, rest_upto, rows_rise}
-use Rattle.versioned_kv.proofs.Changes.{each_changed, forgotten_is, chains_each, all_each, rows_each}
+use Rattle.versioned_kv.proofs.Changes.{forgotten_is, chains_each, all_each, rows_each}
 
 -- ---- lists
 

@@ -1,15 +1,15 @@
 -- What the queue says of the rows.
-use Rattle.std.proofs.Common.{◌≡◌, ℕ, zero, suc, ◌-◌, ◌<◌, ◌≤◌, ◌⊎◌, Bool, true, false, cond, List, [], ◌∷◌, ◌++◌, length, Option, Some, None, take, drop, ⊎_elim, inl, inr, refl, sym, ap, ◌∙◌, subst, arith, is_some}
+use Rattle.std.proofs.Common.{◌≡◌, ℕ, zero, suc, ◌-◌, ◌<◌, ◌≤◌, ◌⊎◌, Bool, true, false, cond, List, [], ◌∷◌, ◌++◌, length, Some, take, drop, ⊎_elim, inl, inr, refl, sym, ap, ◌∙◌, subst, arith}
 use Rattle.std.specs.List.{slice_get, slice_set, AllByRecursion}
 use Rattle.std.proofs.lemmas.Bool.{cases_eq, cases_lt, eq-eqb, ne_eqb}
 use Rattle.fb_bytes.specs.Bytes.{Bytes, is_same}
 use Rattle.fb_bytes.specs.Options.{IsIn}
 use Rattle.fb_bytes.proofs.Order.{not_both, same_eq, same_itself}
 use Rattle.mutations.proofs.Basics.{by_test, all_weaker, all_so}
-use Rattle.versioned_kv.specs.Chains.{Row, Chain, AreRising, AreChains, rows_upto, value_in, rows_of}
+use Rattle.versioned_kv.specs.Chains.{Row, Chain, AreRising, AreChains, rows_upto, rows_of}
 use Rattle.versioned_kv.specs.Chunks.{joined}
 use Rattle.versioned_kv.specs.Edits.{without_rows, without, changed_at, AreRowsUpto, AreUpto}
-use Rattle.versioned_kv.specs.Forgotten.{rows_fallen, forgotten, all_forgotten}
+use Rattle.versioned_kv.specs.Forgotten.{forgotten, all_forgotten}
 use Rattle.versioned_kv.specs.Touched.{RowsStay}
 use Rattle.versioned_kv.specs.Queued.{Touch, touch, IsNoted, AreRowsNoted, AreNoted, AreInOrder, AreTouchesUpto, AreTouchesBelow, AreTouchesPast, Notes, Falls, AreRowsKept, MayFall, AreDue}
 use Rattle.versioned_kv.proofs.Search.{all_at}

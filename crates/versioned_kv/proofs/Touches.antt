@@ -1,6 +1,6 @@
 -- What a write leaves alone.
-use Rattle.std.proofs.Common.{◌≡◌, ℕ, zero, suc, ◌+◌, ◌<◌, ◌≤◌, Bool, true, false, ◌&&◌, ◌||◌, cond, List, [], ◌∷◌, length, Option, Some, None, ⊎_elim, inl, inr, refl, sym, ap, ◌∙◌, subst, arith, is_some}
-use Rattle.std.specs.List.{slice_get, AllByRecursion}
+use Rattle.std.proofs.Common.{◌≡◌, ℕ, zero, suc, ◌+◌, ◌<◌, ◌≤◌, Bool, true, false, ◌&&◌, ◌||◌, cond, List, [], ◌∷◌, length, None, ⊎_elim, inl, inr, refl, sym, ap, ◌∙◌, subst, arith, is_some}
+use Rattle.std.specs.List.{AllByRecursion}
 use Rattle.std.proofs.lemmas.Bool.{cases_eq, eq-eqb, ne_eqb}
 use Rattle.fb_bytes.specs.Bytes.{Bytes, is_below, is_same}
 use Rattle.fb_bytes.specs.declared.KeyRange.{KeyRange}
@@ -10,8 +10,8 @@ use Rattle.fb_bytes.proofs.Order.{not_both, same_eq, same_itself, below_not_same
 use Rattle.mutations.specs.declared.mutation.Mutation.{Mutation}
 use Rattle.mutations.specs.Effects.{touches_key}
 use Rattle.mutations.proofs.Basics.{by_test, all_weaker}
-use Rattle.versioned_kv.specs.Chains.{Row, Chain, AreRising, AreChains, value_in, rows_of, value_at}
-use Rattle.versioned_kv.specs.Edits.{put_row, put_at, without_rows, without, clear_chain, cleared_upto, IsClearedUpto, Extends}
+use Rattle.versioned_kv.specs.Chains.{Row, Chain, AreRising, AreChains, value_in, rows_of}
+use Rattle.versioned_kv.specs.Edits.{put_row, put_at, without_rows, clear_chain, cleared_upto, IsClearedUpto, Extends}
 use Rattle.versioned_kv.specs.Sound.{AreOf}
 use Rattle.versioned_kv.specs.Applied.{IsPast}
 use Rattle.versioned_kv.specs.Touched.{touched, has_value_in, RowsStay, WritesAt}

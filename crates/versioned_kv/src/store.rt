@@ -164,6 +164,8 @@ impl Store {
             → Holds self.old (entries ++ entry ∷ []) → Holds self.new entries }
         ensures same { (versions : List ℕ) (version : ℕ) → self.old.versions ≡ versions
             ++ version ∷ [] → StandsWith self.old versions self.new }
+        ensures rows { (versions : List ℕ) (version : ℕ) → self.old.versions ≡ versions
+            ++ version ∷ [] → self.new.chains ≡ without version self.old.chains }
     {
         if let Some(version) = self.versions.pop() {
             cut(&mut self.chains, version, &mut self.queue);

@@ -132,6 +132,17 @@ fn entries_are_retracted_and_versions_forgotten(rt: HostRuntime) -> Result<(), F
 }
 
 #[test]
+fn a_key_without_a_value_is_forgotten(rt: HostRuntime) -> Result<(), Fail> {
+    let mut store = three_entries(rt.alloc())?;
+    for (oldest, keys, rows) in [(19, 2, 2), (20, 1, 2), (30, 1, 1)] {
+        store.forget(oldest);
+        assert_eq!(rt; store.keys(), keys, "{oldest}");
+        assert_eq!(rt; store.rows_of(b"a"), rows, "{oldest}");
+    }
+    Ok(())
+}
+
+#[test]
 fn a_page_tells_where_to_go_on(rt: HostRuntime) -> Result<(), Fail> {
     let store = three_entries(rt.alloc())?;
     let both = range(rt.alloc(), b"a", b"z")?;
@@ -288,7 +299,14 @@ fn agree(store: &Store, rows: &[Left]) -> bool {
 
 #[test]
 fn short_sequences_leave_what_a_plain_list_has(rt: HostRuntime) -> Result<(), Fail> {
-    let sequences: [[Change; 5]; 4] = [
+    let sequences: [[Change; 5]; 5] = [
+        [
+            (0, 1, b'a'),
+            (1, 2, b'c'),
+            (3, 2, 0),
+            (0, 3, b'a'),
+            (2, 3, 0),
+        ],
         [
             (0, 1, b'a'),
             (0, 2, b'b'),

@@ -1,6 +1,4 @@
-use Rattle.std.proofs.Common.{◌≡◌, ◌<◌, List, [], length, unwrap_or, refl, sym, ap, ◌∙◌, rules}
-use Rattle.std.specs.Option.{option_copied}
-use Rattle.versioned_kv.specs.Chains.{Row}
+use Rattle.std.proofs.Common.{◌<◌, length, refl, ap, ◌∙◌, rules}
 use Rattle.versioned_kv.proofs.Places.{read_at}
 use Rattle.versioned_kv.proofs.Joined.{chains_at, rows_belong}
 use Rattle.versioned_kv.proofs.chunks.count_of.Goals as goal

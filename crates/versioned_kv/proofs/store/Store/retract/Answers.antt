@@ -2,6 +2,7 @@ use Rattle.std.proofs.Common.{◌≡◌, ℕ, ◌<◌, List, [], ◌∷◌, ◌+
 use Rattle.versioned_kv.specs.Chains.{Chain}
 use Rattle.std.specs.List.{AllByRecursion}
 use Rattle.fb_bytes.specs.Options.{IsIn}
+use Rattle.versioned_kv.specs.Edits.{without}
 use Rattle.versioned_kv.specs.Sound.{AreVersions, AreOf}
 use Rattle.versioned_kv.specs.Queued.{Touch, IsWhole}
 use Rattle.versioned_kv.specs.Applied.{Contents, Holds}
@@ -48,3 +49,8 @@ returns-in-Some-clause-holds c = λ entries entry h.
     let upto = upto_last version rest s.chains (subst AreVersions split c.self.invariant.sound.versions_rise) (subst (λ (versions : List ℕ). AreOf versions s.chains) split c.self.invariant.sound.known) in
     subst (λ (chains : List Chain). Holds (record { limit = s.limit; oldest = s.oldest; versions = rest; chains = chains }) entries) (sym c.cut.ensures.chains)
     (holds_back s.limit s.oldest s.versions.items rest version s.chains c.self.invariant.sound.in_order upto split (omega arith) entries entry (subst (λ (x : Contents). Holds x (entries ++ entry ∷ [])) (sym c.self.view_is) h))
+
+pub returns-in-Some-clause-rows : goal.returns-in-Some-clause-rows
+returns-in-Some-clause-rows c = λ versions version split.
+    let same = snoc_same c.pop.new.self.items versions c.in-Some.version version (sym c.in-Some.ensures.items ∙ ap (λ (x : Contents). x.versions) c.self.view_is ∙ split) in
+    c.cut.ensures.chains ∙ ap (λ (v : ℕ). without v c.self.inside.chains) same.1 ∙ ap (λ (x : Contents). without version x.chains) c.self.view_is
