@@ -6,3 +6,4 @@ mod Puts
 mod LogLaws
 mod Places
 mod Joins
+mod Retracts

@@ -1,5 +1,5 @@
 -- A binary search finds how many keys are below a key.
-use Rattle.std.proofs.Common.{◌≡◌, ℕ, zero, suc, ◌-◌, max, ◌<◌, ◌≤◌, ◌⊎◌, inl, inr, Bool, true, false, not, ◌&&◌, ◌||◌, eqb, ltb, leb, List, [], ◌∷◌, ◌++◌, length, take, drop, get_or, refl, sym, ap, ◌∙◌, arith}
+use Rattle.std.proofs.Common.{◌≡◌, ℕ, zero, suc, ◌-◌, max, ◌<◌, ◌≤◌, ◌⊎◌, inl, inr, Bool, true, false, not, ◌&&◌, ◌||◌, cond, eqb, ltb, leb, List, [], ◌∷◌, ◌++◌, length, take, drop, get_or, refl, sym, ap, ◌∙◌, arith}
 use Rattle.std.specs.List.{AllByRecursion, filter}
 use Rattle.std.specs.List.Sorted.{IsPartitionedBy, IsPartitionPoint}
 use Rattle.std.proofs.lemmas.Bool.{and_parts, eqb-true, ltb-true, lt-leb, le-leb, cases_lt, cases_order, lt-ltb, le-ltb, eq-eqb, ne_eqb, cond-true, cond-false}
@@ -13,13 +13,13 @@ use Rattle.log_keys.proofs.Orders.{before, before_trans, before_least, before_st
 
 -- ---- keys are in order
 
-abbrev Below : Key → Key → Type 0
+abbrev pub Below : Key → Key → Type 0
 Below a b = (a.job < b.job) ⊎ ((a.job ≡ b.job) × (before a.version a.part b.version b.part ≡ true))
 
 below_same : (a b : Key) → a.job ≡ b.job → is_key_below a b ≡ before a.version a.part b.version b.part
 below_same a b e = rw (le-ltb a.job b.job (omega arith), eq-eqb a.job b.job e) refl
 
-below_is : (a b : Key) → is_key_below a b ≡ true → Below a b
+pub below_is : (a b : Key) → is_key_below a b ≡ true → Below a b
 below_is a b h = elim (cases_order a.job b.job) [
   | inl e ↦ inr (e, sym (below_same a b e) ∙ h)
   | inr (inl lt) ↦ inl lt
@@ -220,91 +220,100 @@ part_missing job version (x ∷ xs) le = go (is_key_below x.key (first_at job ve
         ap (λ (b : Bool). b || has_part job version xs) (not_at job version x.key e) ∙ ih (omega (arith, next))
     go false e ih = absurd (let none = cond-false _ (suc (keys_below (first_at job version) xs)) zero e in omega (arith, none))
 
--- ---- the rows of a job before a version are taken out
+-- ---- the rows of a job from a version on and before another are taken out
 
-abbrev is_kept : ℕ → ℕ → Row → Bool
-is_kept job below row = not (is_older job below row.key.job row.key.version)
+abbrev pub is_kept : ℕ → ℕ → ℕ → Row → Bool
+is_kept job begin end row = not (is_between job begin end row.key.job row.key.version)
 
-older_is : (job below of version : ℕ) → is_older job below of version ≡ is_between job 0 below of version
-older_is job below of version = rw (le-leb 0 version (omega arith)) refl
+kept_all : (job begin end : ℕ) (rows : List Row) → AllByRecursion (λ (row : Row). is_key_below row.key (first_at job end) ≡ false) rows → filter (is_kept job begin end) rows ≡ rows
+kept_all job begin end [] h = refl
+kept_all job begin end (r ∷ rs) h =
+    cond-true (is_kept job begin end r) _ _ (ap not (back_out job begin end r.key h.0)) ∙ ap (λ (rows : List Row). r ∷ rows) (kept_all job begin end rs h.1)
 
-kept_all : (job below : ℕ) (rows : List Row) → AllByRecursion (λ (row : Row). is_key_below row.key (first_at job below) ≡ false) rows → filter (is_kept job below) rows ≡ rows
-kept_all job below [] h = refl
-kept_all job below (r ∷ rs) h =
-    cond-true (is_kept job below r) _ _ (ap not (older_is job below r.key.job r.key.version ∙ back_out job 0 below r.key h.0)) ∙ ap (λ (rows : List Row). r ∷ rows) (kept_all job below rs h.1)
-
-kept_front : (job below : ℕ) (rows : List Row) → AreRising rows → AllByRecursion (λ (row : Row). is_key_below row.key (first_at job 0) ≡ false) rows → filter (is_kept job below) rows ≡ drop (keys_below (first_at job below) rows) rows
-kept_front job below [] rise h = refl
-kept_front job below (r ∷ rs) rise h = go (is_key_below r.key (first_at job below)) refl (kept_front job below rs rise.1 h.1)
+kept_front : (job begin end : ℕ) (rows : List Row) → AreRising rows → AllByRecursion (λ (row : Row). is_key_below row.key (first_at job begin) ≡ false) rows → filter (is_kept job begin end) rows ≡ drop (keys_below (first_at job end) rows) rows
+kept_front job begin end [] rise h = refl
+kept_front job begin end (r ∷ rs) rise h = go (is_key_below r.key (first_at job end)) refl (kept_front job begin end rs rise.1 h.1)
   where
-    go : (b : Bool) → is_key_below r.key (first_at job below) ≡ b → filter (is_kept job below) rs ≡ drop (keys_below (first_at job below) rs) rs → filter (is_kept job below) (r ∷ rs) ≡ drop (keys_below (first_at job below) (r ∷ rs)) (r ∷ rs)
+    go : (b : Bool) → is_key_below r.key (first_at job end) ≡ b → filter (is_kept job begin end) rs ≡ drop (keys_below (first_at job end) rs) rs → filter (is_kept job begin end) (r ∷ rs) ≡ drop (keys_below (first_at job end) (r ∷ rs)) (r ∷ rs)
     go true e ih =
-        cond-false (is_kept job below r) _ _ (ap not (older_is job below r.key.job r.key.version ∙ middle_in job 0 below r.key h.0 e))
+        cond-false (is_kept job begin end r) _ _ (ap not (middle_in job begin end r.key h.0 e))
         ∙ ih
-        ∙ sym (ap (λ (n : ℕ). drop n (r ∷ rs)) (cond-true _ (suc (keys_below (first_at job below) rs)) zero e))
+        ∙ sym (ap (λ (n : ℕ). drop n (r ∷ rs)) (cond-true _ (suc (keys_below (first_at job end) rs)) zero e))
     go false e ih =
-        kept_all job below (r ∷ rs) (e, none_below (first_at job below) r.key rs rise.0 e)
-        ∙ sym (ap (λ (n : ℕ). drop n (r ∷ rs)) (cond-false _ (suc (keys_below (first_at job below) rs)) zero e))
+        kept_all job begin end (r ∷ rs) (e, none_below (first_at job end) r.key rs rise.0 e)
+        ∙ sym (ap (λ (n : ℕ). drop n (r ∷ rs)) (cond-false _ (suc (keys_below (first_at job end) rs)) zero e))
 
 abbrev pub without_cut : ℕ → ℕ → List Row → List Row
 without_cut first last rows = take first rows ++ drop last rows
 
--- a job's first key of all comes before the later ones
-up_below : (job below : ℕ) (key : Key) → is_key_below key (first_at job 0) ≡ true → (is_key_below key (first_at job below) ≡ true) × (is_older job below key.job key.version ≡ false)
-up_below job below key h = elim (below_is key (first_at job 0) h) [
-  | inl lt ↦ (below_from key (first_at job below) (inl lt), rw (ne_eqb key.job job (λ e. omega arith)) refl)
-  | inr p ↦ (let lt = before_start key.version key.part 0 p.1 in absurd (omega arith))
-]
+-- what comes before the first key of a version comes before that of a later one
+up_below : (job begin end : ℕ) (key : Key) → begin ≤ end → is_key_below key (first_at job begin) ≡ true → (is_key_below key (first_at job end) ≡ true) × (is_between job begin end key.job key.version ≡ false)
+up_below job begin end key le h = (
+  elim (below_is key (first_at job begin) h) [
+    | inl lt ↦ below_from key (first_at job end) (inl lt)
+    | inr p ↦ (let lt = before_start key.version key.part begin p.1 in below_from key (first_at job end) (inr (p.0, start_before key.version key.part end (omega arith))))
+  ],
+  front_out job begin end key h,
+)
 
-pub kept_cut : (job below : ℕ) (rows : List Row) → AreRising rows → filter (is_kept job below) rows ≡ without_cut (keys_below (first_at job 0) rows) (keys_below (first_at job below) rows) rows
-kept_cut job below [] rise = refl
-kept_cut job below (r ∷ rs) rise = go (is_key_below r.key (first_at job 0)) refl (kept_cut job below rs rise.1)
+pub kept_cut : (job begin end : ℕ) (rows : List Row) → begin ≤ end → AreRising rows → filter (is_kept job begin end) rows ≡ without_cut (keys_below (first_at job begin) rows) (keys_below (first_at job end) rows) rows
+kept_cut job begin end [] le rise = refl
+kept_cut job begin end (r ∷ rs) le rise = go (is_key_below r.key (first_at job begin)) refl (kept_cut job begin end rs le rise.1)
   where
-    go : (b : Bool) → is_key_below r.key (first_at job 0) ≡ b
-        → filter (is_kept job below) rs ≡ without_cut (keys_below (first_at job 0) rs) (keys_below (first_at job below) rs) rs
-        → filter (is_kept job below) (r ∷ rs) ≡ without_cut (keys_below (first_at job 0) (r ∷ rs)) (keys_below (first_at job below) (r ∷ rs)) (r ∷ rs)
+    go : (b : Bool) → is_key_below r.key (first_at job begin) ≡ b
+        → filter (is_kept job begin end) rs ≡ without_cut (keys_below (first_at job begin) rs) (keys_below (first_at job end) rs) rs
+        → filter (is_kept job begin end) (r ∷ rs) ≡ without_cut (keys_below (first_at job begin) (r ∷ rs)) (keys_below (first_at job end) (r ∷ rs)) (r ∷ rs)
     go true e ih =
-        let up = up_below job below r.key e in
-        cond-true (is_kept job below r) _ _ (ap not up.1)
+        let up = up_below job begin end r.key le e in
+        cond-true (is_kept job begin end r) _ _ (ap not up.1)
         ∙ ap (λ (rows : List Row). r ∷ rows) ih
         ∙ sym (
-        ap (λ (n : ℕ). without_cut n (keys_below (first_at job below) (r ∷ rs)) (r ∷ rs)) (cond-true _ (suc (keys_below (first_at job 0) rs)) zero e)
-        ∙ ap (λ (n : ℕ). without_cut (suc (keys_below (first_at job 0) rs)) n (r ∷ rs)) (cond-true _ (suc (keys_below (first_at job below) rs)) zero up.0)
+        ap (λ (n : ℕ). without_cut n (keys_below (first_at job end) (r ∷ rs)) (r ∷ rs)) (cond-true _ (suc (keys_below (first_at job begin) rs)) zero e)
+        ∙ ap (λ (n : ℕ). without_cut (suc (keys_below (first_at job begin) rs)) n (r ∷ rs)) (cond-true _ (suc (keys_below (first_at job end) rs)) zero up.0)
         )
     go false e ih =
-        kept_front job below (r ∷ rs) rise (e, none_below (first_at job 0) r.key rs rise.0 e)
-        ∙ sym (ap (λ (n : ℕ). without_cut n (keys_below (first_at job below) (r ∷ rs)) (r ∷ rs)) (cond-false _ (suc (keys_below (first_at job 0) rs)) zero e))
+        kept_front job begin end (r ∷ rs) rise (e, none_below (first_at job begin) r.key rs rise.0 e)
+        ∙ sym (ap (λ (n : ℕ). without_cut n (keys_below (first_at job end) (r ∷ rs)) (r ∷ rs)) (cond-false _ (suc (keys_below (first_at job begin) rs)) zero e))
 
 -- nothing is cut where the places are the same or turned
-pub cut_none : (job below : ℕ) (rows : List Row) → AreRising rows → keys_below (first_at job below) rows ≤ keys_below (first_at job 0) rows → filter (is_kept job below) rows ≡ rows
-cut_none job below [] rise le = refl
-cut_none job below (r ∷ rs) rise le = go (is_key_below r.key (first_at job 0)) refl (is_key_below r.key (first_at job below)) refl (cut_none job below rs rise.1)
+pub cut_none : (job begin end : ℕ) (rows : List Row) → begin ≤ end → AreRising rows → keys_below (first_at job end) rows ≤ keys_below (first_at job begin) rows → filter (is_kept job begin end) rows ≡ rows
+cut_none job begin end [] up rise le = refl
+cut_none job begin end (r ∷ rs) up rise le = go (is_key_below r.key (first_at job begin)) refl (is_key_below r.key (first_at job end)) refl (cut_none job begin end rs up rise.1)
   where
-    go : (b : Bool) → is_key_below r.key (first_at job 0) ≡ b → (d : Bool) → is_key_below r.key (first_at job below) ≡ d
-        → (keys_below (first_at job below) rs ≤ keys_below (first_at job 0) rs → filter (is_kept job below) rs ≡ rs)
-        → filter (is_kept job below) (r ∷ rs) ≡ r ∷ rs
+    go : (b : Bool) → is_key_below r.key (first_at job begin) ≡ b → (d : Bool) → is_key_below r.key (first_at job end) ≡ d
+        → (keys_below (first_at job end) rs ≤ keys_below (first_at job begin) rs → filter (is_kept job begin end) rs ≡ rs)
+        → filter (is_kept job begin end) (r ∷ rs) ≡ r ∷ rs
     go true e d f ih =
-        let up = up_below job below r.key e in
-        let one = cond-true _ (suc (keys_below (first_at job 0) rs)) zero e in
-        let two = cond-true _ (suc (keys_below (first_at job below) rs)) zero up.0 in
-        cond-true (is_kept job below r) _ _ (ap not up.1) ∙ ap (λ (rows : List Row). r ∷ rows) (ih (omega (arith, one, two)))
+        let higher = up_below job begin end r.key up e in
+        let one = cond-true _ (suc (keys_below (first_at job begin) rs)) zero e in
+        let two = cond-true _ (suc (keys_below (first_at job end) rs)) zero higher.0 in
+        cond-true (is_kept job begin end r) _ _ (ap not higher.1) ∙ ap (λ (rows : List Row). r ∷ rows) (ih (omega (arith, one, two)))
     go false e true f ih =
-        absurd (let one = cond-false _ (suc (keys_below (first_at job 0) rs)) zero e in let two = cond-true _ (suc (keys_below (first_at job below) rs)) zero f in omega (arith, one, two))
-    go false e false f ih = kept_all job below (r ∷ rs) (f, none_below (first_at job below) r.key rs rise.0 f)
+        absurd (let one = cond-false _ (suc (keys_below (first_at job begin) rs)) zero e in let two = cond-true _ (suc (keys_below (first_at job end) rs)) zero f in omega (arith, one, two))
+    go false e false f ih = kept_all job begin end (r ∷ rs) (f, none_below (first_at job end) r.key rs rise.0 f)
+
+older_is : (job below of version : ℕ) → is_older job below of version ≡ is_between job 0 below of version
+older_is job below of version = rw (le-leb 0 version (omega arith)) refl
+
+pub older_out : (job below : ℕ) (rows : List Row) → filter (is_kept job 0 below) rows ≡ filter (λ (row : Row). not (is_older job below row.key.job row.key.version)) rows
+older_out job below [] = refl
+older_out job below (r ∷ rs) =
+    let same = sym (older_is job below r.key.job r.key.version) in
+    λ i. cond (not (same i)) (r ∷ older_out job below rs i) (older_out job below rs i)
 
 -- ---- of a slice of the same rows
 
 pub place_in : (key : Key) (rows slice : List Row) (place : ℕ) → slice ≡ rows → place ≡ keys_below key slice → place ≡ keys_below key rows
 place_in key rows slice place same is = is ∙ ap (keys_below key) same
 
-pub cut_here : (job below : ℕ) (rows slice other : List Row) (first last : ℕ) → AreRising rows → slice ≡ rows → other ≡ rows → first ≡ keys_below (first_at job 0) slice → last ≡ keys_below (first_at job below) other → without_cut first last rows ≡ filter (is_kept job below) rows
-cut_here job below rows slice other first last rise same too is to =
-    ap (λ (n : ℕ). without_cut n last rows) (place_in (first_at job 0) rows slice first same is)
-    ∙ ap (λ (n : ℕ). without_cut (keys_below (first_at job 0) rows) n rows) (place_in (first_at job below) rows other last too to)
-    ∙ sym (kept_cut job below rows rise)
+pub cut_here : (job begin end : ℕ) (rows slice other : List Row) (first last : ℕ) → begin ≤ end → AreRising rows → slice ≡ rows → other ≡ rows → first ≡ keys_below (first_at job begin) slice → last ≡ keys_below (first_at job end) other → without_cut first last rows ≡ filter (is_kept job begin end) rows
+cut_here job begin end rows slice other first last up rise same too is to =
+    ap (λ (n : ℕ). without_cut n last rows) (place_in (first_at job begin) rows slice first same is)
+    ∙ ap (λ (n : ℕ). without_cut (keys_below (first_at job begin) rows) n rows) (place_in (first_at job end) rows other last too to)
+    ∙ sym (kept_cut job begin end rows up rise)
 
-pub uncut_here : (job below : ℕ) (rows slice other : List Row) (first last : ℕ) → AreRising rows → slice ≡ rows → other ≡ rows → first ≡ keys_below (first_at job 0) slice → last ≡ keys_below (first_at job below) other → last ≤ first → rows ≡ filter (is_kept job below) rows
-uncut_here job below rows slice other first last rise same too is to le =
-    let one = place_in (first_at job 0) rows slice first same is in
-    let two = place_in (first_at job below) rows other last too to in
-    sym (cut_none job below rows rise (omega (arith, one, two, le)))
+pub uncut_here : (job begin end : ℕ) (rows slice other : List Row) (first last : ℕ) → begin ≤ end → AreRising rows → slice ≡ rows → other ≡ rows → first ≡ keys_below (first_at job begin) slice → last ≡ keys_below (first_at job end) other → last ≤ first → rows ≡ filter (is_kept job begin end) rows
+uncut_here job begin end rows slice other first last up rise same too is to le =
+    let one = place_in (first_at job begin) rows slice first same is in
+    let two = place_in (first_at job end) rows other last too to in
+    sym (cut_none job begin end rows up rise (omega (arith, one, two, le)))

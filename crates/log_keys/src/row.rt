@@ -1,4 +1,4 @@
-ghost use Rattle.std.specs.Prelude.{◌≡◌, ◌==◌, ◌&&◌};
+ghost use Rattle.std.specs.Prelude.{◌≡◌, ◌+◌, ◌==◌, ◌&&◌};
 ghost use Rattle.log_keys.specs.Keys.{first_at, is_key_below};
 
 use crate::key::LogKey;
@@ -17,6 +17,20 @@ impl Row {
         ensures { result ≡ is_key_below self.now.key (first_at job version) }
     {
         self.key.job() < job || self.key.job() == job && self.key.version() < version
+    }
+
+    /// Whether it comes before the parts of later versions of the job.
+    pub fn is_upto(&self, job: u64, version: u64) -> bool
+        ensures { result ≡ is_key_below self.now.key (first_at job (version + 1)) }
+    {
+        self.key.job() < job || self.key.job() == job && self.key.version() <= version
+    }
+
+    /// Whether it comes before the parts of later jobs.
+    pub fn is_upto_job(&self, job: u64) -> bool
+        ensures { result ≡ is_key_below self.now.key (first_at (job + 1) 0) }
+    {
+        self.key.job() <= job
     }
 
     /// Whether it is of the job and of the version.

@@ -3,7 +3,7 @@
 ghost use Rattle.std.specs.Prelude.{◌≡◌, ◌+◌, ◌*◌, ◌<◌, ◌≤◌, ◌^◌, ◌==◌, ◌&&◌, not, ◌++◌, length, take, drop, IfOk, OnOk, OnErr};
 ghost use Rattle.std.specs.List.{filter};
 ghost use Rattle.log_keys.specs.Keys.{first_at};
-ghost use Rattle.log_keys.specs.Logs.{is_older};
+ghost use Rattle.log_keys.specs.Logs.{is_between, is_older};
 ghost use Rattle.log_keys.specs.Parts.{rows_from, pieces_of};
 ghost use Rattle.log_keys.specs.Table.{AreRising, keys_below, has_part, rows_between};
 
@@ -123,9 +123,47 @@ fn cut(rows: &mut Vec<Row>, first: usize, last: usize)
     rows.truncate(rest);
 }
 
-/// Takes the parts of a version out.
+/// Takes the parts of a version out. It goes from job to job.
 pub fn retract(rows: &mut Vec<Row>, version: u64)
+    requires { AreRising rows.old.items }
     ensures { rows.new.items ≡ filter (λ row. not (row.key.version == version)) rows.old.items }
 {
-    rows.retain(|row| row.key.version() != version);
+    let mut done = 0;
+    'jobs: while done < rows.len() {
+        let job = rows[done].key.job();
+        retract_of(rows, job, version);
+        done = place_past(rows, job);
+    }
+}
+
+// Takes the parts of a job's version out, which stand side by side.
+fn retract_of(rows: &mut Vec<Row>, job: u64, version: u64)
+    requires { AreRising rows.old.items }
+    ensures { rows.new.items
+        ≡ filter (λ row. not (is_between job version (version + 1) row.key.job row.key.version))
+        rows.old.items }
+{
+    let first = place_of(rows, job, version);
+    let last = place_behind(rows, job, version);
+    if first < last {
+        cut(rows, first, last);
+    }
+}
+
+// How many parts at the front come before those of later versions of the job. It halves.
+fn place_behind(rows: &[Row], job: u64, version: u64) -> usize
+    requires { AreRising rows.now }
+    ensures place { result ≡ keys_below (first_at job (version + 1)) rows.now }
+    ensures within { result ≤ length rows.now }
+{
+    rows.partition_point(|row| row.is_upto(job, version))
+}
+
+// How many parts at the front come before those of later jobs. It halves.
+fn place_past(rows: &[Row], job: u64) -> usize
+    requires { AreRising rows.now }
+    ensures place { result ≡ keys_below (first_at (job + 1) 0) rows.now }
+    ensures within { result ≤ length rows.now }
+{
+    rows.partition_point(|row| row.is_upto_job(job))
 }

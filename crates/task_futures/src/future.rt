@@ -1,10 +1,12 @@
-ghost use Rattle.std.specs.Prelude.{◌≡◌, ◌+◌, ◌≤◌, ◌^◌, ◌++◌, ◌==◌, not, [], IfOk, OnOk, OnErr, if◌then◌else◌};
+ghost use Rattle.std.specs.Prelude.{◌≡◌, ◌+◌, ◌≤◌, ◌++◌, ◌==◌, not, [], IfOk, OnOk, OnErr, if◌then◌else◌};
 ghost use Rattle.std.specs.List.{filter};
 ghost use Rattle.task_futures.specs.Futures.{next_block, is_part, is_some_block, left};
 ghost use Rattle.task_futures.specs.Changes.{front};
+ghost use Rattle.fb_bytes.specs.Limits.{most_number};
 
 use crate::part::falls;
 use crate::{Part, Tasks};
+use fb_bytes::MOST_NUMBER;
 use std::alloc::{AllocError, Global};
 use std::marker::Model;
 use std::mem;
@@ -28,9 +30,9 @@ impl Model for Future {
     ghost view = { λ f. record { number = f.number; blocks = f.blocks.items; callbacks = f.callbacks; joins = f.joins.items } };
 }
 
-/// The number past the greatest of these, up to 2 to the 62nd.
+/// The number past the greatest of these, up to the greatest number.
 pub fn next_block(blocks: &[u64]) -> Result<u64, AllocError>
-    ensures { IfOk result (λ n. (n ≡ next_block blocks.now) × (n ≤ 2 ^ 62)) }
+    ensures { IfOk result (λ n. (n ≡ next_block blocks.now) × (n ≤ most_number)) }
 {
     let mut greatest: u64 = 0;
     for block in blocks {
@@ -39,11 +41,11 @@ pub fn next_block(blocks: &[u64]) -> Result<u64, AllocError>
     below_limit(greatest)
 }
 
-/// One more, where that is at most 2 to the 62nd.
+/// One more, up to the greatest number.
 pub fn below_limit(greatest: u64) -> Result<u64, AllocError>
-    ensures { IfOk result (λ n. (n ≡ greatest + 1) × (n ≤ 2 ^ 62)) }
+    ensures { IfOk result (λ n. (n ≡ greatest + 1) × (n ≤ most_number)) }
 {
-    if greatest < 1 << 62 {
+    if greatest < MOST_NUMBER {
         Ok(greatest + 1)
     } else {
         Err(AllocError)
@@ -107,7 +109,7 @@ impl Future {
     }
 
     pub fn add_block(&mut self) -> Result<u64, AllocError>
-        ensures answer { IfOk result (λ n. (n ≡ next_block self.old.blocks) × (n ≤ 2 ^ 62)) }
+        ensures answer { IfOk result (λ n. (n ≡ next_block self.old.blocks) × (n ≤ most_number)) }
         ensures ok { OnOk result (self.new ≡ and_block self.old) }
         ensures err { OnErr result (self.new ≡ self.old) }
     {

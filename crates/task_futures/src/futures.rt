@@ -1,5 +1,6 @@
-ghost use Rattle.std.specs.Prelude.{◌≡◌, ◌≤◌, ◌^◌, List, true, IfOk, OnOk, OnErr};
+ghost use Rattle.std.specs.Prelude.{◌≡◌, ◌≤◌, List, true, IfOk, OnOk, OnErr};
 ghost use Rattle.task_futures.specs.Futures.{SeenFuture, is_made, are_made, is_open, next_number, next_block_of, with_fresh, with_block, with_callback, joined, unblocked, due_of, without_newest};
+ghost use Rattle.fb_bytes.specs.Limits.{most_number};
 
 use crate::Tasks;
 use std::alloc::AllocError;
@@ -17,7 +18,7 @@ pub trait Futures {
     /// Makes a future without a block.
     fn fresh(&mut self) -> Result<u64, AllocError>
         ensures answer { IfOk result (λ number. (number ≡ next_number (futures self.old))
-            × (number ≤ 2 ^ 62)) }
+            × (number ≤ most_number)) }
         ensures ok { OnOk result (futures self.new ≡ with_fresh (futures self.old)) }
         ensures err { OnErr result (futures self.new ≡ futures self.old) };
 
@@ -25,7 +26,7 @@ pub trait Futures {
     fn block(&mut self, future: u64) -> Result<u64, AllocError>
         requires { is_made future (futures self.old) ≡ true }
         ensures answer { IfOk result (λ block. (block ≡ next_block_of future (futures self.old))
-            × (block ≤ 2 ^ 62)) }
+            × (block ≤ most_number)) }
         ensures ok { OnOk result (futures self.new ≡ with_block future (futures self.old)) }
         ensures err { OnErr result (futures self.new ≡ futures self.old) };
 
@@ -39,7 +40,7 @@ pub trait Futures {
     fn join(&mut self, parts: &[u64]) -> Result<u64, AllocError>
         requires { are_made parts.now (futures self.old) ≡ true }
         ensures answer { IfOk result (λ number. (number ≡ next_number (futures self.old))
-            × (number ≤ 2 ^ 62)) }
+            × (number ≤ most_number)) }
         ensures ok { OnOk result (futures self.new ≡ joined parts.now (futures self.old)) }
         ensures err { OnErr result (futures self.new ≡ futures self.old) };
 

@@ -1,7 +1,8 @@
-ghost use Rattle.std.specs.Prelude.{◌≡◌, ◌++◌, ◌≤◌, ◌^◌, ◌+◌, ◌==◌, not, [], ◌∷◌, List, IfOk, OnOk, OnErr, if◌then◌else◌};
+ghost use Rattle.std.specs.Prelude.{◌≡◌, ◌++◌, ◌≤◌, ◌+◌, ◌==◌, not, [], ◌∷◌, List, IfOk, OnOk, OnErr, if◌then◌else◌};
 ghost use Rattle.std.specs.List.{filter};
 ghost use Rattle.task_futures.specs.Laws.{AreRising};
 ghost use Rattle.task_futures.specs.Futures.{next_number, without_newest, join_blocks, joined};
+ghost use Rattle.fb_bytes.specs.Limits.{most_number};
 
 use crate::due::due_in;
 use crate::future::{Future, below_limit};
@@ -45,7 +46,7 @@ impl ListFutures {
 
 fn next_number(futures: &[Future]) -> Result<u64, AllocError>
     requires { AreRising futures.now }
-    ensures { IfOk result (λ n. (n ≡ next_number futures.now) × (n ≤ 2 ^ 62)) }
+    ensures { IfOk result (λ n. (n ≡ next_number futures.now) × (n ≤ most_number)) }
 {
     below_limit(greatest(futures))
 }
