@@ -3,3 +3,4 @@ pub mod Seen
 pub mod Grammar
 pub mod Laws
 pub mod Writing
+pub mod Joined
