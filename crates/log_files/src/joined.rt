@@ -28,7 +28,11 @@ impl<'a> Joined<'a> {
         ensures { IfOk result (λ joined. joined_from joined ≡ joined_from self.entry ++ part.now) }
     {
         let mut bytes = match self {
-            Joined::One(bytes) => Blob::from_slice(alloc, bytes)?,
+            Joined::One(first) => {
+                let mut bytes = Blob::new(alloc);
+                bytes.extend_from_slice(first)?;
+                bytes
+            }
             Joined::More(bytes) => bytes,
         };
         bytes.extend_from_slice(part)?;
