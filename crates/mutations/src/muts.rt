@@ -67,6 +67,10 @@ impl Muts {
         ensures ok { OnOk result (self.new ≡ self.old ++ mutation ∷ []) }
         ensures err { OnErr result (self.new ≡ self.old) }
     {
+        // Most lists stay with one.
+        if self.mutations.is_empty() {
+            self.mutations.reserve_exact(1)?;
+        }
         self.mutations.push(mutation)?;
         Ok(())
     }
