@@ -13,10 +13,9 @@ use Rattle.mutations.specs.declared.WireFault.{WireFault}
 use Rattle.mutations.specs.Reading.{decoded}
 use Rattle.mutations.specs.Spelling.{batch_spelling, HasSpelling}
 use Rattle.mutations.proofs.Spellings.{decoded_takes, decoded_again}
-use Rattle.log_files.specs.declared.record.Record.{Record}
 use Rattle.log_files.specs.declared.fault.LogFault.{LogFault}
 use Rattle.log_files.specs.declared.fault.LogFault.TheVariants as faults
-use Rattle.log_files.specs.Reading.{◌>>=◌, OpenBatch, SoFar, with_batch, finished, some, continued, begun, continues, placed, version_in, part_in, taken, all_taken}
+use Rattle.log_files.specs.Reading.{Record, ◌>>=◌, OpenBatch, SoFar, with_batch, finished, some, continued, begun, continues, placed, version_in, part_in, taken, all_taken}
 use Rattle.log_files.specs.Grammar.{Row, row_key, rows_of, joined, AreOf, Spell}
 use Rattle.fb_bytes.proofs.Results.{bind_ok, ok_is, test_ok}
 use Rattle.log_files.proofs.Blocks.{bare, bares, AreBytes}

@@ -7,10 +7,9 @@ use Rattle.std.proofs.lemmas.List.{append-nil, length-drop, length-append, map-a
 use Rattle.fb_bytes.specs.Bytes.{Bytes, IsBytes}
 use Rattle.block_frame.specs.Text.{header, string, header_at, string_at, is_over, IsPadding, unpadded_at}
 use Rattle.block_frame.proofs.Strings.{string-length, IsBytes-take, IsBytes-drop, header_found, header_again, IsString, string_found, string_again, string_not_over, not_over_short}
-use Rattle.log_files.specs.declared.record.Record.{Record}
 use Rattle.log_files.specs.declared.fault.LogFault.{LogFault}
 use Rattle.log_files.specs.declared.fault.LogFault.TheVariants as faults
-use Rattle.log_files.specs.Reading.{format, ◌>>=◌, found_or, string_or, record_at, records_at, padding_at, unless_padded, header_or, block_records, SoFar, taken, all_taken, blocks_from}
+use Rattle.log_files.specs.Reading.{Record, format, ◌>>=◌, found_or, string_or, record_at, records_at, padding_at, unless_padded, header_or, block_records, SoFar, taken, all_taken, blocks_from}
 use Rattle.log_files.specs.Grammar.{Row, row_text, rows_text, RowFits, IsLogBlock, LogBlocks, NoBlock, NextBlock}
 use Rattle.fb_bytes.proofs.Results.{bind_ok, found_or_ok, ok_is, test_ok}
 use Rattle.block_frame.proofs.Padding.{padding_found, padding_again, padding_over}

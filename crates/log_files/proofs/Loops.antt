@@ -3,9 +3,8 @@ use Rattle.std.proofs.Common.{◌≡◌, ℕ, zero, suc, ◌+◌, ◌<◌, ◌�
 use Rattle.std.proofs.lemmas.Bool.{eqb-true}
 use Rattle.std.proofs.lemmas.List.{drop_more, drop_all, length-drop}
 use Rattle.fb_bytes.specs.Bytes.{Bytes}
-use Rattle.log_files.specs.declared.record.Record.{Record}
 use Rattle.log_files.specs.declared.fault.LogFault.{LogFault}
-use Rattle.log_files.specs.Reading.{◌>>=◌, SoFar, taken, all_taken, block_records, blocks_from}
+use Rattle.log_files.specs.Reading.{Record, ◌>>=◌, SoFar, taken, all_taken, block_records, blocks_from}
 
 -- ---- the records of a block
 

@@ -5,10 +5,11 @@ use Rattle.fb_bytes.specs.Bytes.{Bytes}
 use Rattle.block_frame.specs.Text.{string_at, is_over}
 use Rattle.fb_bytes.proofs.Results.{found_or_ok, fuel_is}
 use Rattle.block_frame.proofs.Strings.{string_size}
-use Rattle.log_files.specs.declared.record.Record.{Record}
 use Rattle.log_files.specs.declared.fault.LogFault.{LogFault}
 use Rattle.log_files.specs.declared.fault.LogFault.TheVariants as faults
-use Rattle.log_files.specs.Reading.{◌>>=◌, string_or, record_at, records_at}
+use Rattle.log_files.specs.declared.record as rows
+use Rattle.log_files.specs.Seen.{record_from, records_from}
+use Rattle.log_files.specs.Reading.{Record, ◌>>=◌, string_or, record_at, records_at}
 
 pub string_or_size : (t : ℕ) (bytes : Bytes) (x : Bytes × Bytes) → string_or t bytes ≡ Ok x → 4 + length x.0 + length x.1 ≡ length bytes
 unfolding string_or
@@ -83,3 +84,8 @@ pub rows_no_value : (rows : List Record) (t : ℕ) (rest key after : Bytes) (fau
 rows_no_value rows t rest key after fault total s o e e' =
     let f = fuel_is (length rest) s.fuel s.enough in
     sym s.same ∙ ap (λ (n : ℕ). behind_rows rows (records_at n t rest)) f.1 ∙ ap (behind_rows rows) (no_value f.0 t rest key after fault o e e')
+
+-- one more record, wherever its bytes lie
+pub records_last : (xs : List rows.Record.Record) (row : rows.Record.Record) → records_from (xs ++ row ∷ []) ≡ records_from xs ++ record_from row ∷ []
+records_last [] row = refl
+records_last (x ∷ xs) row = ap (λ (rs : List Record). record_from x ∷ rs) (records_last xs row)

@@ -2,4 +2,5 @@ pub mod Reading
 pub mod Grammar
 pub mod Laws
 pub mod Writing
+pub mod Joined
 pub mod inner

@@ -11,7 +11,6 @@ use Rattle.mutations.specs.declared.Mutation.{Mutation}
 use Rattle.mutations.specs.declared.Batch.{Batch}
 use Rattle.mutations.specs.declared.WireFault.{WireFault}
 use Rattle.mutations.specs.Reading.{decoded}
-use Rattle.log_files.specs.declared.record.Record.{Record}
 use Rattle.log_files.specs.declared.fault.LogFault.{LogFault}
 use Rattle.log_files.specs.declared.fault.LogFault.TheVariants as faults
 
@@ -28,6 +27,12 @@ Fails fault reading = FailsBut faults.NoMemory fault reading
 -- the string in front; the bytes end at the place t, so they begin at t less their length
 unfoldable pub string_or : ℕ → Bytes → Result (Bytes × Bytes) LogFault
 string_or t bytes = found_or (faults.Short (t - length bytes)) (string_at bytes)
+
+-- a piece of a batch under its key, and its place in the file
+pub record Record : Type 0 where
+  pub at : ℕ
+  pub key : Bytes
+  pub value : Bytes
 
 abbrev pub record_at : ℕ → Bytes → Bytes → Record
 record_at at key value = record { at = at; key = key; value = value }

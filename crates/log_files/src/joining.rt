@@ -2,19 +2,21 @@
 
 ghost use Rattle.std.specs.Prelude.{◌≡◌, ◌+◌, ◌^◌, ◌<◌, Ok, Some, length, IfOk, IfErr};
 ghost use Rattle.log_files.specs.Reading as reading;
-ghost use Rattle.log_files.specs.inner.Seen.{so_far, joining_from};
+ghost use Rattle.log_files.specs.inner.Seen.{so_far, joining_from, record_from, records_from};
 
 use crate::batched::{Batched, Joining};
 use crate::fault::LogFault;
+use crate::joined::Joined;
 use crate::record::Record;
 use mutations::{Batch, WireFault, decode_batch};
 use std::alloc::Global;
 
 /// Reads the batch that is being joined.
 #[tactic(auto, unfolding(crate::specs::Reading::finished))]
-pub fn finished(alloc: Global, batched: Batched) -> Result<Batched, LogFault>
-    ensures ok { IfOk result (λ b. reading.finished (so_far batched) ≡ Ok (so_far b)) }
-    ensures err { IfErr result (λ fault. reading.Fails fault (reading.finished (so_far batched))) }
+pub fn finished<'a>(alloc: Global, batched: Batched<'a>) -> Result<Batched<'a>, LogFault>
+    ensures ok { IfOk result (λ b. reading.finished (so_far batched.entry) ≡ Ok (so_far b)) }
+    ensures err { IfErr result
+        (λ fault. reading.Fails fault (reading.finished (so_far batched.entry))) }
 {
     let Batched {
         mut batches,
@@ -45,25 +47,32 @@ pub fn finished(alloc: Global, batched: Batched) -> Result<Batched, LogFault>
 
 /// Takes one more record in.
 #[tactic(auto, unfolding(crate::specs::Reading::taken))]
-pub fn taken(alloc: Global, batched: Batched, end: u64, row: &Record) -> Result<Batched, LogFault>
-    ensures ok { IfOk result (λ b. reading.taken end (so_far batched) row.now ≡ Ok (so_far b)) }
+pub fn taken<'a>(
+    alloc: Global,
+    batched: Batched<'a>,
+    end: u64,
+    row: Record<'a>,
+) -> Result<Batched<'a>, LogFault>
+    ensures ok { IfOk result (λ b. reading.taken end (so_far batched.entry) (record_from row.entry)
+        ≡ Ok (so_far b)) }
     ensures err { IfErr result
-        (λ fault. reading.Fails fault (reading.taken end (so_far batched) row.now)) }
+        (λ fault. reading.Fails fault
+        (reading.taken end (so_far batched.entry) (record_from row.entry))) }
 {
-    let key = row.key.as_slice();
+    let key = row.key;
     if key.len() != 12 {
         return Err(LogFault::KeyLength { at: row.at });
     }
     let (version, part) = version_and_part(key);
     if continues(&batched.joining, version) {
-        return continued(batched, row, part);
+        return continued(alloc, batched, row, part);
     }
     let batched = finished(alloc, batched)?;
     begun(end, batched, row, version, part)
 }
 
 /// Whether a batch of this version is being joined.
-fn continues(joining: &Option<Joining>, version: u64) -> bool
+fn continues(joining: &Option<Joining<'_>>, version: u64) -> bool
     ensures { result ≡ reading.continues (joining_from joining.now) version }
 {
     match joining {
@@ -88,11 +97,17 @@ fn version_and_part(key: &[u8]) -> (u64, u32)
 
 /// One more piece of the batch that is being joined.
 #[tactic(auto, unfolding(crate::specs::Reading::continued))]
-fn continued(batched: Batched, row: &Record, part: u32) -> Result<Batched, LogFault>
-    ensures ok { IfOk result (λ b. reading.continued (so_far batched) row.now part
-        ≡ Ok (so_far b)) }
+fn continued<'a>(
+    alloc: Global,
+    batched: Batched<'a>,
+    row: Record<'a>,
+    part: u32,
+) -> Result<Batched<'a>, LogFault>
+    ensures ok { IfOk result (λ b.
+        reading.continued (so_far batched.entry) (record_from row.entry) part ≡ Ok (so_far b)) }
     ensures err { IfErr result
-        (λ fault. reading.Fails fault (reading.continued (so_far batched) row.now part)) }
+        (λ fault. reading.Fails fault
+        (reading.continued (so_far batched.entry) (record_from row.entry) part)) }
 {
     let Batched {
         batches,
@@ -106,7 +121,7 @@ fn continued(batched: Batched, row: &Record, part: u32) -> Result<Batched, LogFa
         at,
         version,
         next,
-        mut joined,
+        joined,
     } = batch;
     if u64::from(part) != next {
         return Err(LogFault::Part { at: row.at, part });
@@ -114,7 +129,7 @@ fn continued(batched: Batched, row: &Record, part: u32) -> Result<Batched, LogFa
     if row.value.is_empty() {
         return Err(LogFault::Part { at: row.at, part });
     }
-    joined.extend_from_slice(row.value.as_slice())?;
+    let joined = joined.with(alloc, row.value)?;
     Ok(Batched {
         batches,
         low,
@@ -129,17 +144,19 @@ fn continued(batched: Batched, row: &Record, part: u32) -> Result<Batched, LogFa
 
 /// The first piece of another batch.
 #[tactic(auto, unfolding(crate::specs::Reading::begun))]
-fn begun(
+fn begun<'a>(
     end: u64,
-    batched: Batched,
-    row: &Record,
+    batched: Batched<'a>,
+    row: Record<'a>,
     version: u64,
     part: u32,
-) -> Result<Batched, LogFault>
-    ensures ok { IfOk result (λ b. reading.begun end (so_far batched) row.now version part
+) -> Result<Batched<'a>, LogFault>
+    ensures ok { IfOk result (λ b.
+        reading.begun end (so_far batched.entry) (record_from row.entry) version part
         ≡ Ok (so_far b)) }
     ensures err { IfErr result
-        (λ fault. reading.Fails fault (reading.begun end (so_far batched) row.now version part)) }
+        (λ fault. reading.Fails fault
+        (reading.begun end (so_far batched.entry) (record_from row.entry) version part)) }
 {
     if version < batched.low || version >= end {
         return Err(LogFault::Version {
@@ -150,7 +167,7 @@ fn begun(
     if part != 0 || row.value.is_empty() {
         return Err(LogFault::Part { at: row.at, part });
     }
-    let joined = row.value.copy()?;
+    let joined = Joined::One(row.value);
     let Batched { batches, low, .. } = batched;
     Ok(Batched {
         batches,
@@ -165,20 +182,22 @@ fn begun(
 }
 
 /// Takes all records of a block in.
-pub fn all_taken(
+pub fn all_taken<'a>(
     alloc: Global,
-    batched: Batched,
+    batched: Batched<'a>,
     end: u64,
-    records: &[Record],
-) -> Result<Batched, LogFault>
-    ensures ok { IfOk result (λ b. reading.all_taken end (so_far batched) records.now
+    records: &[Record<'a>],
+) -> Result<Batched<'a>, LogFault>
+    ensures ok { IfOk result (λ b.
+        reading.all_taken end (so_far batched.entry) (records_from records.now)
         ≡ Ok (so_far b)) }
     ensures err { IfErr result
-        (λ fault. reading.Fails fault (reading.all_taken end (so_far batched) records.now)) }
+        (λ fault. reading.Fails fault
+        (reading.all_taken end (so_far batched.entry) (records_from records.now))) }
 {
     let mut batched = batched;
     for row in records {
-        batched = taken(alloc, batched, end, row)?;
+        batched = taken(alloc, batched, end, *row)?;
     }
     Ok(batched)
 }

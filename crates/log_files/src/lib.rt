@@ -3,6 +3,7 @@
 
 mod batched;
 mod fault;
+mod joined;
 mod joining;
 mod laws;
 mod reading;

@@ -75,7 +75,13 @@ fn batches_of(
 }
 
 /// Block by block, each wholly before its records.
-fn blocks(alloc: Global, bytes: &[u8], size: u32, begin: u64, end: u64) -> Result<Batched, LogFault>
+fn blocks(
+    alloc: Global,
+    bytes: &[u8],
+    size: u32,
+    begin: u64,
+    end: u64,
+) -> Result<Batched<'_>, LogFault>
     requires { 0 < size }
     ensures ok { IfOk result
         (λ b. reading.blocks_from (length bytes.now) size end 0

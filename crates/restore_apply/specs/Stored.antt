@@ -11,7 +11,8 @@ use Rattle.restore_apply.specs.declared.overlaps.At.{At}
 -- the pairs whose keys the range holds
 abbrev pub kept : KeyRange → List Pair → List Pair
 kept range [] = []
-kept range (pair ∷ pairs) = if holds range pair.key then pair ∷ kept range pairs else kept range pairs
+kept range (pair ∷ pairs) =
+    if holds range pair.key then pair ∷ kept range pairs else kept range pairs
 
 -- the pairs of a file, if there is one, whose keys the range holds
 abbrev pub kept_of : KeyRange → Option LoadedFile → List Pair

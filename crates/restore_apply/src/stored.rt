@@ -38,7 +38,8 @@ fn joined(alloc: Global, files: &[LoadedFile], order: &[At]) -> Result<Vec<Pair>
 
 /// Adds the pairs whose keys the range holds.
 fn add(pairs: &mut Vec<Pair>, range: &KeyRange, more: &Pairs) -> Result<(), AllocError>
-    ensures pairs { OnOk result (pairs.new.items ≡ pairs.old.items ++ spec.kept range.now more.now) }
+    ensures pairs { OnOk result
+        (pairs.new.items ≡ pairs.old.items ++ spec.kept range.now more.now) }
     ensures rising { AreRising more.now }
 {
     let more = more.as_slice();
