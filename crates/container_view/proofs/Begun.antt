@@ -3,7 +3,7 @@ use Rattle.std.proofs.Common.{◌≡◌, ℕ, zero, suc, ◌-◌, ◌<◌, ◌�
 use Rattle.std.specs.List.Sorted.{IsNonDecreasingBy, IsPartitionedBy, IsPartitionPoint}
 use Rattle.std.proofs.lemmas.Bool.{cond-true, cond-false}
 use Rattle.std.proofs.lemmas.List.Sorted.{IsPartitionedBy-leb}
-use Rattle.container_view.specs.Listed.{IsRisingBy, last_begun}
+use Rattle.container_view.specs.inner.Listed.{IsRisingBy, last_begun}
 
 module _ {A : Type 0} (begin : A → ℕ) where
   pub rising_from : (low : ℕ) (xs : List A) → ((i : ℕ) (d : A) → i < length xs → low ≤ begin (get_or xs i d)) → IsNonDecreasingBy begin xs → IsRisingBy begin low xs

@@ -21,7 +21,7 @@ use Rattle.container_view.specs.Folder.{LogFile}
 use Rattle.container_view.specs.Chain.{comes_first, log_beats, has_version, best_log}
 use Rattle.container_view.specs.Choices.{IsNoBetter}
 use Rattle.container_view.specs.Names.{as_named_log, logs_named, seen}
-use Rattle.container_view.specs.Listed.{plain_log, log_of, logs_of, log_named, listed, plain_logs, IsRisingBy, last_begun, held, better, bests}
+use Rattle.container_view.specs.inner.Listed.{plain_log, log_of, logs_of, log_named, listed, plain_logs, IsRisingBy, last_begun, held, better, bests}
 use Rattle.container_view.proofs.Basics.{best_of_in}
 use Rattle.container_view.proofs.Best.{first_is, is_first, best_of_some, best_of_skip, best_of_tops, by_end_and_name, not_first}
 use Rattle.container_view.proofs.Names.{joined, best_last, best_map}

@@ -15,9 +15,10 @@ use Rattle.container_view.specs.Chain.{LogLink, comes_first, has_version, log_be
 use Rattle.container_view.specs.Advertised.{gives, manifest_beats, chosen}
 use Rattle.container_view.specs.Bounds.{Bounds, reached, is_given, given, wider, given_by}
 use Rattle.container_view.specs.Files.{Grammars, as_log, as_manifest, range_files, log_files, manifest_files, unreliable_of}
-use Rattle.container_view.specs.Names.{Link, as_named_log, logs_named, as_named_manifest, manifests_named, folder_named, manifest_name, link_of, named_links, chain_named, AreNamesOf, NamesLaw, seen, first_of, seen_manifest, better_manifest, given_named}
+use Rattle.container_view.specs.Names.{Link, as_named_log, logs_named, as_named_manifest, manifests_named, folder_named, manifest_name, link_of, named_links, chain_named, AreNamesOf, NamesLaw, seen}
+use Rattle.container_view.specs.inner.Names.{first_of, seen_manifest, better_manifest, given_named}
 use Rattle.container_view.specs.declared.logs.Run.{Run}
-use Rattle.container_view.specs.Listed.{reach_in}
+use Rattle.container_view.specs.inner.Listed.{reach_in}
 use Rattle.fb_bytes.proofs.Options.{bind_some}
 use Rattle.container_view.proofs.Best.{IsOrder, by_end_and_name}
 use Rattle.container_view.proofs.Whole.{chain_law}

@@ -9,7 +9,7 @@ use Rattle.container_view.specs.Chain.{has_version, log_beats, best_log}
 use Rattle.container_view.specs.Choices.{HasVersion}
 use Rattle.container_view.specs.Bounds.{reached}
 use Rattle.container_view.specs.Names.{seen}
-use Rattle.container_view.specs.Listed.{IsRisingBy, last_begun, runs_from, runs_of, on_to, reach_in}
+use Rattle.container_view.specs.inner.Listed.{IsRisingBy, last_begun, runs_from, runs_of, on_to, reach_in}
 use Rattle.container_view.proofs.Best.{best_of_some}
 use Rattle.container_view.proofs.Chains.{best_log_is}
 use Rattle.container_view.proofs.Reached.{is_reached, reached_there, reached_from, reached_ends}

@@ -11,7 +11,7 @@ use Rattle.std.proofs.lemmas.Map.Lookups.{exact_bytes}
 use Rattle.fb_bytes.specs.Bytes.{Bytes, is_same}
 use Rattle.fb_bytes.proofs.Order.{same_eq, same_itself}
 use Rattle.container_view.specs.Names.{is_named}
-use Rattle.container_view.specs.Listing.{texts}
+use Rattle.container_view.specs.inner.Listing.{texts}
 
 named_any : (names : List Bytes) (name : Bytes) → is_named names name ≡ list_any (λ listed. is_same listed name) names
 named_any [] name = refl

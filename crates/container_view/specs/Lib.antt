@@ -15,6 +15,5 @@ pub mod Stores
 pub mod Lookups
 pub mod Honest
 pub mod Names
-pub mod Listed
-pub mod Listing
 pub mod Sets
+pub mod inner

@@ -2,7 +2,7 @@
 
 ghost use Rattle.std.specs.Prelude.{◌≡◌, ◌+◌, IfOk};
 ghost use Rattle.container_view.specs.Names.{chain_named};
-ghost use Rattle.container_view.specs.Listed.{AreSorted};
+ghost use Rattle.container_view.specs.inner.Listed.{AreSorted};
 
 use crate::logs::{SortedLogs, best_at, best_logs, sorted_logs};
 use fb_bytes::{Names, Seq, Text, TryCopy};
@@ -39,7 +39,12 @@ impl TryCopy for Link {
 
 /// The chain of log files from `from` until it reaches `to`, of a container with these names. There
 /// is none where no log file has some version between.
-pub fn chain(alloc: Global, names: &Names, from: u64, to: u64) -> Result<Option<Seq<Link>>, AllocError>
+pub fn chain(
+    alloc: Global,
+    names: &Names,
+    from: u64,
+    to: u64,
+) -> Result<Option<Seq<Link>>, AllocError>
     ensures { IfOk result (λ links. links ≡ chain_named names.now from to) }
 {
     if to == 0 {

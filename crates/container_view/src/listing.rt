@@ -4,7 +4,7 @@ ghost use Rattle.std.specs.Prelude.{◌≡◌, ℕ, IfOk};
 ghost use Rattle.std.specs.Ordering.{nat_cmp};
 ghost use Rattle.std.specs.Cmp.Lexicographic.{slice_cmp};
 ghost use Rattle.std.specs.List.Sorted.{IsSortedByKey};
-ghost use Rattle.container_view.specs.Listing.{texts};
+ghost use Rattle.container_view.specs.inner.Listing.{texts};
 ghost use Rattle.container_view.specs.Names.{is_named};
 ghost use Rattle.fb_bytes.specs.Bytes.{Bytes};
 

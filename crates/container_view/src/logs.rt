@@ -3,7 +3,7 @@
 ghost use Rattle.std.specs.Prelude.{◌≡◌, ◌<◌, option_map, None, IfOk, IfSome};
 ghost use Rattle.container_view.specs.Chain as spec;
 ghost use Rattle.container_view.specs.Names.{logs_named};
-ghost use Rattle.container_view.specs.Listed.{IsRisingBy, log_of, log_named, plain_logs, logs_of, bests, better, best_in, runs_of, reach_in, HaveSameBest, AreSorted, TellsBest, TellsReach};
+ghost use Rattle.container_view.specs.inner.Listed.{IsRisingBy, log_of, log_named, plain_logs, logs_of, bests, better, best_in, runs_of, reach_in, HaveSameBest, AreSorted, TellsBest, TellsReach};
 ghost use Rattle.file_names.specs.Reading.{name_of};
 
 use fb_bytes::{Names, Text, is_below};

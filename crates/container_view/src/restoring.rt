@@ -2,7 +2,7 @@
 
 ghost use Rattle.std.specs.Prelude.{◌≡◌, ◌+◌, ◌≤◌, ◌⊎◌, List, Some, None, Ok, Err, ok_or, option_map, IfOk, IfErr, IsErrOf};
 ghost use Rattle.container_view.specs.Files.{inside};
-ghost use Rattle.container_view.specs.Listed.{AreSorted};
+ghost use Rattle.container_view.specs.inner.Listed.{AreSorted};
 ghost use Rattle.container_view.specs.Sets as spec;
 ghost use Rattle.container_view.specs.declared.view.ViewFault.TheVariants as faults;
 ghost use Rattle.container_view.specs.declared.view.FileFault.TheVariants as file_faults;

@@ -1,8 +1,9 @@
 //! The versions that a container can be restored to, from the names of its files alone.
 
 ghost use Rattle.std.specs.Prelude.{◌≡◌, ℕ, List, option_map, IfOk};
-ghost use Rattle.container_view.specs.Listed.{AreSorted, IsRisingBy, reach_in};
-ghost use Rattle.container_view.specs.Names.{folder_named, manifest_name, seen_manifest, better_manifest, given_named};
+ghost use Rattle.container_view.specs.inner.Listed.{AreSorted, IsRisingBy, reach_in};
+ghost use Rattle.container_view.specs.Names.{folder_named, manifest_name};
+ghost use Rattle.container_view.specs.inner.Names.{seen_manifest, better_manifest, given_named};
 ghost use Rattle.container_view.specs.Advertised.{chosen};
 ghost use Rattle.container_view.specs.Bounds as spec;
 ghost use Rattle.file_names.specs.Reading.{name_of};

@@ -8,7 +8,7 @@ use Rattle.block_frame.proofs.Strings.{string_size}
 use Rattle.log_files.specs.declared.fault.LogFault.{LogFault}
 use Rattle.log_files.specs.declared.fault.LogFault.TheVariants as faults
 use Rattle.log_files.specs.declared.record as rows
-use Rattle.log_files.specs.Seen.{record_from, records_from}
+use Rattle.log_files.specs.inner.Seen.{record_from, records_from}
 use Rattle.log_files.specs.Reading.{Record, ◌>>=◌, string_or, record_at, records_at}
 
 pub string_or_size : (t : ℕ) (bytes : Bytes) (x : Bytes × Bytes) → string_or t bytes ≡ Ok x → 4 + length x.0 + length x.1 ≡ length bytes

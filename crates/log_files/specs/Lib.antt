@@ -2,5 +2,4 @@ pub mod Reading
 pub mod Grammar
 pub mod Laws
 pub mod Writing
-pub mod Joined
 pub mod inner

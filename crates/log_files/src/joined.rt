@@ -1,7 +1,7 @@
 //! The parts of a batch, joined.
 
 ghost use Rattle.std.specs.Prelude.{◌≡◌, ◌++◌, IfOk};
-ghost use Rattle.log_files.specs.Joined.{joined_from};
+ghost use Rattle.log_files.specs.inner.Joined.{joined_from};
 
 use fb_bytes::Blob;
 use std::alloc::{AllocError, Global};

@@ -2,7 +2,7 @@
 
 ghost use Rattle.std.specs.Prelude.{◌≡◌, ◌+◌, ◌^◌, ◌<◌, ◌≤◌, Ok, List, length, IfOk, IfErr, OnOk};
 ghost use Rattle.log_files.specs.Reading as reading;
-ghost use Rattle.log_files.specs.Seen.{records_from};
+ghost use Rattle.log_files.specs.inner.Seen.{records_from};
 
 use crate::fault::LogFault;
 use block_frame::{header_at, is_over, string_at, unpadded_at};

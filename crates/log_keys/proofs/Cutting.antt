@@ -4,7 +4,7 @@ use Rattle.std.proofs.lemmas.Bool.{cases_lt, lt-leb, le-leb, cond-true, cond-fal
 use Rattle.std.proofs.lemmas.List.{length-drop}
 use Rattle.std.proofs.Math.Nat.{mul-le-mul_right}
 use Rattle.fb_bytes.specs.Bytes.{Bytes}
-use Rattle.log_keys.specs.Parts.{Row, pieces_with, pieces_of, rows_from}
+use Rattle.log_keys.specs.inner.Parts.{Row, pieces_with, pieces_of, rows_from}
 
 abbrev pub row_at : ℕ → ℕ → ℕ → Bytes → Row
 row_at job version part piece = record { key = record { job = job; version = version; part = part }; piece = piece }

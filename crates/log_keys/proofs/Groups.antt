@@ -8,8 +8,8 @@ use Rattle.fb_bytes.specs.Bytes.{Bytes}
 use Rattle.mutations.proofs.Basics.{by_test, all_weaker}
 use Rattle.log_keys.specs.Keys.{is_key_below}
 use Rattle.log_keys.specs.Logs.{Standing, is_before, stands, AreOrdered, is_between, batch_of, batches_between}
-use Rattle.log_keys.specs.Parts.{Row, rows_from, spelled}
-use Rattle.log_keys.specs.Table.{Whole, Group, joined_onto, joined, standing_of, batch_in, log_in, rows_of, IsRead, is_group_before, AreInOrder, AreRising, IsWhole, IsTable, has_part, rows_between}
+use Rattle.log_keys.specs.inner.Parts.{Row, rows_from, spelled}
+use Rattle.log_keys.specs.inner.Table.{Whole, Group, joined_onto, joined, standing_of, batch_in, log_in, rows_of, IsRead, is_group_before, AreInOrder, AreRising, IsWhole, IsTable, has_part, rows_between}
 use Rattle.log_keys.proofs.Orders.{before, same, below_before, below_part, before_not_same, same_itself, all_filter, filter-map, map-map}
 
 abbrev pub row_test : (ℕ → ℕ → Bool) → Row → Bool

@@ -5,10 +5,11 @@ use Rattle.std.specs.List.Sorted.{IsPartitionedBy, IsPartitionPoint}
 use Rattle.std.proofs.lemmas.Bool.{and_parts, eqb-true, ltb-true, lt-leb, le-leb, cases_lt, cases_order, lt-ltb, le-ltb, eq-eqb, ne_eqb, cond-true, cond-false}
 use Rattle.std.proofs.lemmas.List.Elements.{All-from_recursion}
 use Rattle.mutations.proofs.Basics.{not_both}
-use Rattle.log_keys.specs.Keys.{Key, first_at, is_key_below}
+use Rattle.log_keys.specs.Keys.{Key, is_key_below}
+use Rattle.log_keys.specs.inner.Keys.{first_at}
 use Rattle.log_keys.specs.Logs.{is_between, is_older}
-use Rattle.log_keys.specs.Parts.{Row}
-use Rattle.log_keys.specs.Table.{AreRising, keys_below, has_part, rows_between}
+use Rattle.log_keys.specs.inner.Parts.{Row}
+use Rattle.log_keys.specs.inner.Table.{AreRising, keys_below, has_part, rows_between}
 use Rattle.log_keys.proofs.Orders.{before, before_trans, before_least, before_start, start_before}
 
 -- ---- keys are in order

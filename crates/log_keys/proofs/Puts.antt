@@ -8,10 +8,11 @@ use Rattle.mutations.specs.declared.mutation.Mutation.{Mutation}
 use Rattle.mutations.specs.Reading.{decoded}
 use Rattle.mutations.proofs.Spellings.{decoded_again}
 use Rattle.mutations.proofs.Basics.{by_test, all_weaker}
-use Rattle.log_keys.specs.Keys.{Key, first_at, is_key_below}
+use Rattle.log_keys.specs.Keys.{Key, is_key_below}
+use Rattle.log_keys.specs.inner.Keys.{first_at}
 use Rattle.log_keys.specs.Logs.{Standing, Spells, IsBatch, with_one, stands}
-use Rattle.log_keys.specs.Parts.{Row, rows_from, spelled, pieces_with, pieces_of}
-use Rattle.log_keys.specs.Table.{Group, standing_of, muts_or_none, muts_in, log_in, rows_of, IsRead, is_group_before, AreInOrder, IsWhole, IsTable, keys_below}
+use Rattle.log_keys.specs.inner.Parts.{Row, rows_from, spelled, pieces_with, pieces_of}
+use Rattle.log_keys.specs.inner.Table.{Group, standing_of, muts_or_none, muts_in, log_in, rows_of, IsRead, is_group_before, AreInOrder, IsWhole, IsTable, keys_below}
 use Rattle.log_keys.proofs.Orders.{before_trans, before_back, below_before, below_not, or_parts}
 use Rattle.log_keys.proofs.Groups.{whole_in, table_of, log_of, log_is}
 

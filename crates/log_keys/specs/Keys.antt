@@ -34,10 +34,6 @@ key_in bytes =
       part = from_be_bytes w32 (drop 24 bytes);
     }
 
--- the first key of a job and a version
-abbrev pub first_at : ℕ → ℕ → Key
-first_at job version = record { job = job; version = version; part = 0 }
-
 -- by job, then by version, then by part
 abbrev pub is_key_below : Key → Key → Bool
 is_key_below a b =

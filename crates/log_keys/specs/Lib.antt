@@ -1,5 +1,4 @@
 pub mod Keys
 pub mod Laws
 pub mod Logs
-pub mod Parts
-pub mod Table
+pub mod inner

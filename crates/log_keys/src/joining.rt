@@ -2,8 +2,8 @@
 
 ghost use Rattle.std.specs.Prelude.{◌≡◌, ◌++◌, List, ◌∷◌, map, IfOk};
 ghost use Rattle.std.specs.List.{All};
-ghost use Rattle.log_keys.specs.Parts.{Row};
-ghost use Rattle.log_keys.specs.Table.{Whole, IsRead, goes_on, joined, joined_onto, joined_with, whole_of, with_piece, batch_in};
+ghost use Rattle.log_keys.specs.inner.Parts.{Row};
+ghost use Rattle.log_keys.specs.inner.Table.{Whole, IsRead, goes_on, joined, joined_onto, joined_with, whole_of, with_piece, batch_in};
 
 use crate::row::Row;
 use crate::whole::Whole;

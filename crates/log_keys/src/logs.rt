@@ -19,7 +19,7 @@ pub struct LogKeys {
 impl Model for LogKeys {
     ghost use Rattle.std.specs.Prelude.{List};
     ghost use Rattle.log_keys.specs.Logs.{Standing};
-    ghost use Rattle.log_keys.specs.Table.{IsTable, log_in};
+    ghost use Rattle.log_keys.specs.inner.Table.{IsTable, log_in};
 
     ghost Value = { List Standing };
 

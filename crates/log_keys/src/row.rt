@@ -1,5 +1,6 @@
 ghost use Rattle.std.specs.Prelude.{◌≡◌, ◌+◌, ◌==◌, ◌&&◌};
-ghost use Rattle.log_keys.specs.Keys.{first_at, is_key_below};
+ghost use Rattle.log_keys.specs.Keys.{is_key_below};
+ghost use Rattle.log_keys.specs.inner.Keys.{first_at};
 
 use crate::key::LogKey;
 use fb_bytes::Blob;

@@ -2,10 +2,10 @@
 
 ghost use Rattle.std.specs.Prelude.{◌≡◌, ◌+◌, ◌*◌, ◌<◌, ◌≤◌, ◌^◌, ◌==◌, ◌&&◌, not, ◌++◌, length, take, drop, IfOk, OnOk, OnErr};
 ghost use Rattle.std.specs.List.{filter};
-ghost use Rattle.log_keys.specs.Keys.{first_at};
+ghost use Rattle.log_keys.specs.inner.Keys.{first_at};
 ghost use Rattle.log_keys.specs.Logs.{is_between, is_older};
-ghost use Rattle.log_keys.specs.Parts.{rows_from, pieces_of};
-ghost use Rattle.log_keys.specs.Table.{AreRising, keys_below, has_part, rows_between};
+ghost use Rattle.log_keys.specs.inner.Parts.{rows_from, pieces_of};
+ghost use Rattle.log_keys.specs.inner.Table.{AreRising, keys_below, has_part, rows_between};
 
 use crate::key::LogKey;
 use crate::row::Row;

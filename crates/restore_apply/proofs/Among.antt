@@ -10,7 +10,7 @@ use Rattle.fb_bytes.proofs.Order.{below_trans, below_up, below_down}
 use Rattle.mutations.proofs.Basics.{not_both, not_false}
 use Rattle.mutations.proofs.Intersections.{holds_common}
 use Rattle.mutations.specs.Effects.{range_of, later, earlier}
-use Rattle.restore_apply.specs.Pieces.{Piece, since, AreLine, is_older, older_has, cleared}
+use Rattle.restore_apply.specs.inner.Pieces.{Piece, since, AreLine, is_older, older_has, cleared}
 
 -- ---- a search by halving
 

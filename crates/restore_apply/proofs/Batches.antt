@@ -7,7 +7,7 @@ use Rattle.mutations.specs.declared.mutation.Mutation.{Mutation}
 use Rattle.mutations.specs.Effects.{effect, effects}
 use Rattle.mutations.specs.Replay.{replayed}
 use Rattle.restore_apply.specs.Loaded.{LoadedLink, replayed_links}
-use Rattle.restore_apply.specs.Pieces.{is_older, is_due, gives, effects_if, batches_since, links_since}
+use Rattle.restore_apply.specs.inner.Pieces.{is_older, is_due, gives, effects_if, batches_since, links_since}
 
 -- ---- at one key
 

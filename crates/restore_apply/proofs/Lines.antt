@@ -11,8 +11,9 @@ use Rattle.mutations.proofs.Basics.{by_test, not_both, not_true, not_false, all_
 use Rattle.mutations.proofs.Intersections.{holds_backwards}
 use Rattle.restore_apply.specs.Loaded.{LoadedFile, range_of, file_with}
 use Rattle.fb_bytes.specs.Keys.{overlaps}
-use Rattle.restore_apply.specs.Pieces.{Piece, since, piece_of, pieces_at, AreLine, ArePiecesOf}
-use Rattle.restore_apply.specs.Overlaps.{At, AreOrdered, overlaps_some, numbered, placed, in_order, first_overlap}
+use Rattle.restore_apply.specs.inner.Pieces.{Piece, since, piece_of, pieces_at, AreLine, ArePiecesOf}
+use Rattle.restore_apply.specs.Overlaps.{At, overlaps_some, numbered, placed, in_order, first_overlap}
+use Rattle.restore_apply.specs.inner.Overlaps.{AreOrdered}
 use Rattle.restore_apply.proofs.Apart.{apart_all, some_in_order, apart_in_order, apart_numbered, overlap_law}
 
 -- ---- tests

@@ -6,7 +6,7 @@ use Rattle.std.specs.Map.{update, update_all}
 use Rattle.fb_bytes.specs.Bytes.{Bytes, is_same}
 use Rattle.fb_bytes.specs.Pairs.{value_of, AreRising}
 use Rattle.fb_bytes.proofs.Order.{same_eq}
-use Rattle.restore_apply.specs.Tables.{paired}
+use Rattle.restore_apply.specs.inner.Tables.{paired}
 use Rattle.restore_apply.proofs.Tables.{eq_same}
 use Rattle.restore_apply.proofs.Rising.{first_of, first_none, rising_all, value_past}
 

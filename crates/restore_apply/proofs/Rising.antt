@@ -11,9 +11,11 @@ use Rattle.fb_bytes.specs.Pairs.{value_of, KeyPast, AreRising}
 use Rattle.fb_bytes.proofs.Order.{below_trans, below_itself, below_up, same_eq}
 use Rattle.mutations.proofs.Basics.{not_both, not_true, all_weaker}
 use Rattle.mutations.proofs.Intersections.{holds_backwards}
-use Rattle.restore_apply.specs.Loaded.{LoadedFile, stored_at}
-use Rattle.restore_apply.specs.Overlaps.{At, AreOrdered, overlaps_some, numbered, in_order, first_overlap}
-use Rattle.restore_apply.specs.Stored.{kept, kept_of, stored, IsRising, EachIsRising}
+use Rattle.restore_apply.specs.Loaded.{LoadedFile}
+use Rattle.restore_apply.specs.inner.Loaded.{stored_at}
+use Rattle.restore_apply.specs.Overlaps.{At, overlaps_some, numbered, in_order, first_overlap}
+use Rattle.restore_apply.specs.inner.Overlaps.{AreOrdered}
+use Rattle.restore_apply.specs.inner.Stored.{kept, kept_of, stored, IsRising, EachIsRising}
 use Rattle.restore_apply.proofs.Apart.{apart_all, apart_in_order, drop_at}
 use Rattle.restore_apply.proofs.Lines.{left, right, not_left, not_right, from_begin, before_end, past, not_below, are_ordered, numbered_apart, said, said_in_order, said_numbered}
 

@@ -6,7 +6,8 @@ use Rattle.std.specs.Cmp.{IsStrictWeakOrder}
 use Rattle.fb_bytes.specs.Bytes.{is_below}
 use Rattle.fb_bytes.proofs.Order.{below_up, below_itself, below_not_back}
 use Rattle.mutations.proofs.Basics.{by_test, not_both, not_true, all_weaker}
-use Rattle.restore_apply.specs.Overlaps.{At, AreOrdered, placed, in_order}
+use Rattle.restore_apply.specs.Overlaps.{At, placed, in_order}
+use Rattle.restore_apply.specs.inner.Overlaps.{AreOrdered}
 use Rattle.restore_apply.proofs.Lines.{are_ordered, not_below}
 
 -- begins below

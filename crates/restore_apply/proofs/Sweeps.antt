@@ -8,7 +8,8 @@ use Rattle.fb_bytes.specs.declared.KeyRange.{KeyRange}
 use Rattle.fb_bytes.specs.Keys.{overlaps, is_backwards}
 use Rattle.fb_bytes.proofs.Order.{below_down}
 use Rattle.mutations.proofs.Basics.{not_true, not_false}
-use Rattle.restore_apply.specs.Overlaps.{At, AreOrdered, overlaps_some, overlaps_last, further, overlapping}
+use Rattle.restore_apply.specs.Overlaps.{At, overlaps_some, overlapping}
+use Rattle.restore_apply.specs.inner.Overlaps.{AreOrdered, overlaps_last, further}
 use Rattle.restore_apply.proofs.Apart.{drop_at}
 use Rattle.restore_apply.proofs.Lines.{other, not_below}
 

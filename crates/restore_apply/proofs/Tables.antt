@@ -18,7 +18,7 @@ use Rattle.fb_bytes.specs.Pairs.{value_of, KeyPast, AreRising}
 use Rattle.fb_bytes.proofs.Order.{below_not_same, same_eq, same_both, not_both}
 use Rattle.mutations.specs.Effects.{range_of}
 use Rattle.mutations.proofs.Intersections.{holds_backwards}
-use Rattle.restore_apply.specs.Tables.{Table, found, Leaves, paired}
+use Rattle.restore_apply.specs.inner.Tables.{Table, found, Leaves, paired}
 
 -- ---- the order of byte strings
 

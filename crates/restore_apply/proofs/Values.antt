@@ -3,8 +3,9 @@ use Rattle.std.proofs.Common.{◌≡◌, ℕ, ◌+◌, Result, Ok, Err, IfOk, Op
 use Rattle.fb_bytes.specs.Bytes.{Bytes}
 use Rattle.fb_bytes.specs.Options.{◌>>=◌}
 use Rattle.fb_bytes.specs.Pairs.{value_of}
-use Rattle.restore_apply.specs.Loaded.{Loaded, LoadedFile, file_with, replayed_links, stored_at, loaded_at}
-use Rattle.restore_apply.specs.Pieces.{links_since}
+use Rattle.restore_apply.specs.Loaded.{Loaded, LoadedFile, file_with, replayed_links, loaded_at}
+use Rattle.restore_apply.specs.inner.Loaded.{stored_at}
+use Rattle.restore_apply.specs.inner.Pieces.{links_since}
 use Rattle.restore_apply.proofs.Batches.{links_none, links_some}
 
 pub if_ok : {A E : Type 0} {P Q : A → Type 0} (r : Result A E) → ((x : A) → P x → Q x) → IfOk r P → IfOk r Q

@@ -5,7 +5,7 @@ use Rattle.fb_bytes.specs.Keys.{holds}
 use Rattle.mutations.specs.declared.batch.Batch.{Batch}
 use Rattle.mutations.specs.Effects.{effects}
 use Rattle.restore_apply.specs.Loaded.{LoadedLink}
-use Rattle.restore_apply.specs.Pieces.{Piece, since, oldest, is_due, gives, some_batch_past, some_past, batches_since, links_since}
+use Rattle.restore_apply.specs.inner.Pieces.{Piece, since, oldest, is_due, gives, some_batch_past, some_past, batches_since, links_since}
 use Rattle.restore_apply.proofs.Lines.{not_left, not_right}
 
 pub oldest_small : (pieces : List Piece) → oldest pieces < 2 ^ 64

@@ -1,6 +1,4 @@
 pub mod Loaded
 pub mod Overlaps
 pub mod Laws
-pub mod Pieces
-pub mod Tables
-pub mod Stored
+pub mod inner

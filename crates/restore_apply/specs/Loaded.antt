@@ -19,12 +19,6 @@ abbrev pub file_with : List LoadedFile → Bytes → Option LoadedFile
 file_with [] key = None
 file_with (file ∷ files) key = if holds (range_of file) key then Some file else file_with files key
 
--- the value of a key in the file whose range holds it
-abbrev pub stored_at : List LoadedFile → Bytes → Option Bytes
-stored_at files key = do
-  file ← file_with files key
-  value_of file.body.pairs key
-
 -- What the links' batches with low <= version < high leave at a key, each link giving its own
 -- versions. A value that an operation appends to has the link's limit.
 abbrev pub replayed_links : List LoadedLink → ℕ → ℕ → Bytes → Option Bytes → Option Bytes

@@ -27,21 +27,6 @@ abbrev pub in_order : List At → List At
 in_order [] = []
 in_order (x ∷ xs) = placed x (in_order xs)
 
--- each begins no earlier than those before it
-abbrev pub AreOrdered : List At → Type 0
-AreOrdered [] = Unit {0}
-AreOrdered (x ∷ xs) =
-    AllByRecursion (λ y. is_below y.range.begin x.range.begin ≡ false) xs × AreOrdered xs
-
--- the range overlaps that one, if there is one
-abbrev pub overlaps_last : KeyRange → Option KeyRange → Bool
-overlaps_last range None = false
-overlaps_last range (Some last) = overlaps range last
-
--- the range, where it has keys, and else the one before
-abbrev pub further : KeyRange → Option KeyRange → Option KeyRange
-further range last = if is_backwards range then last else Some range
-
 -- the first that overlaps one before it
 abbrev pub overlapping : List At → List At → Option At
 overlapping before [] = None

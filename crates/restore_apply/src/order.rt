@@ -2,7 +2,8 @@
 
 ghost use Rattle.std.specs.Prelude.{◌≡◌, IfOk};
 ghost use Rattle.restore_apply.specs.Loaded as loaded;
-ghost use Rattle.restore_apply.specs.Overlaps.{AreOrdered, in_order, numbered};
+ghost use Rattle.restore_apply.specs.Overlaps.{in_order, numbered};
+ghost use Rattle.restore_apply.specs.inner.Overlaps.{AreOrdered};
 
 use crate::{At, LoadedFile};
 use fb_bytes::KeyRange;

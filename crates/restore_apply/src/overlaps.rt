@@ -1,5 +1,6 @@
 ghost use Rattle.std.specs.Prelude.{◌≡◌, [], IfOk, option_copied};
 ghost use Rattle.restore_apply.specs.Overlaps as spec;
+ghost use Rattle.restore_apply.specs.inner.Overlaps as inner;
 
 use crate::LoadedFile;
 use crate::order::ordered;
@@ -24,7 +25,7 @@ pub fn overlap(alloc: Global, files: &[LoadedFile]) -> Result<Option<At>, AllocE
 
 /// The first range that overlaps one before it.
 pub(crate) fn first_overlap(order: &[At]) -> Result<Option<At>, AllocError>
-    requires { spec.AreOrdered order.now }
+    requires { inner.AreOrdered order.now }
     ensures { IfOk result (λ at. at ≡ spec.overlapping [] order.now) }
 {
     // The last one that has keys reaches furthest, as no two overlap so far.
@@ -40,7 +41,7 @@ pub(crate) fn first_overlap(order: &[At]) -> Result<Option<At>, AllocError>
 }
 
 fn overlaps_last(range: &KeyRange, last: Option<&KeyRange>) -> bool
-    ensures { result ≡ spec.overlaps_last range.now (option_copied last.entry) }
+    ensures { result ≡ inner.overlaps_last range.now (option_copied last.entry) }
 {
     match last {
         Some(last) => range.overlaps(last),
@@ -49,7 +50,7 @@ fn overlaps_last(range: &KeyRange, last: Option<&KeyRange>) -> bool
 }
 
 fn further<'a>(range: &'a KeyRange, last: Option<&'a KeyRange>) -> Option<&'a KeyRange>
-    ensures { option_copied result ≡ spec.further range.now (option_copied last.entry) }
+    ensures { option_copied result ≡ inner.further range.now (option_copied last.entry) }
 {
     if range.is_backwards() {
         last

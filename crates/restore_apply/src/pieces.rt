@@ -7,8 +7,8 @@ ghost use Rattle.fb_bytes.specs.Bytes.{Bytes};
 ghost use Rattle.fb_bytes.specs.Keys.{holds};
 ghost use Rattle.mutations.specs.Effects as effects;
 ghost use Rattle.restore_apply.specs.Overlaps.{in_order, numbered, first_overlap};
-ghost use Rattle.restore_apply.specs.Pieces as spec;
-ghost use Rattle.restore_apply.specs.Tables.{Leaves};
+ghost use Rattle.restore_apply.specs.inner.Pieces as spec;
+ghost use Rattle.restore_apply.specs.inner.Tables.{Leaves};
 
 use crate::table::clear;
 use crate::{At, LoadedFile};

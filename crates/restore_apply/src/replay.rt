@@ -4,8 +4,8 @@ ghost use Rattle.std.specs.Prelude.{◌≡◌, Some, IfOk, OnOk, if◌then◌els
 ghost use Rattle.fb_bytes.specs.Bytes.{is_same};
 ghost use Rattle.atomic_ops.specs.Operation.{operation, bytes_left};
 ghost use Rattle.mutations.specs.Effects.{effect, effects};
-ghost use Rattle.restore_apply.specs.Pieces as spec;
-ghost use Rattle.restore_apply.specs.Tables.{found, Leaves};
+ghost use Rattle.restore_apply.specs.inner.Pieces as spec;
+ghost use Rattle.restore_apply.specs.inner.Tables.{found, Leaves};
 
 use crate::LoadedLink;
 use crate::pieces::{Piece, clear_older, is_older};

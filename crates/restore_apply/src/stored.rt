@@ -3,9 +3,9 @@
 ghost use Rattle.std.specs.Prelude.{◌≡◌, ◌++◌, None, IfOk, OnOk};
 ghost use Rattle.fb_bytes.specs.Bytes.{Bytes};
 ghost use Rattle.fb_bytes.specs.Pairs.{value_of, AreRising};
-ghost use Rattle.restore_apply.specs.Loaded.{stored_at};
+ghost use Rattle.restore_apply.specs.inner.Loaded.{stored_at};
 ghost use Rattle.restore_apply.specs.Overlaps.{in_order, numbered, first_overlap};
-ghost use Rattle.restore_apply.specs.Stored as spec;
+ghost use Rattle.restore_apply.specs.inner.Stored as spec;
 
 use crate::{At, LoadedFile};
 use fb_bytes::{KeyRange, Pair, Pairs};

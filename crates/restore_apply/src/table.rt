@@ -5,7 +5,7 @@ ghost use Rattle.fb_bytes.specs.Bytes.{Bytes, is_same};
 ghost use Rattle.fb_bytes.specs.Keys.{holds};
 ghost use Rattle.fb_bytes.specs.Pairs.{value_of};
 ghost use Rattle.mutations.specs.Effects.{range_of};
-ghost use Rattle.restore_apply.specs.Tables.{found, paired, Leaves};
+ghost use Rattle.restore_apply.specs.inner.Tables.{found, paired, Leaves};
 
 use fb_bytes::{Blob, Pair, Pairs, is_below};
 use std::alloc::{AllocError, Global};

@@ -6,7 +6,7 @@ use Rattle.fb_bytes.specs.Options.{IsIn}
 use Rattle.task_bucket.specs.declared.held.Held.{Held}
 use Rattle.task_bucket.specs.Lists.{Lease, Slot, Lists, slot_with, lease_with, any_of, has_uid, put_slot, put_lease}
 use Rattle.task_bucket.specs.Claims.{lease_of, due, not_due, returned_to, returned, chosen, picked, claimed, with_chosen, leased_out, after_claim}
-use Rattle.task_bucket.specs.Held.{slot_in, lease_in, slot_before, lease_before, slots_in, leases_in, lists_in, ArePast, AreRising, until_allows, candidates, is_free, is_idle, place_for, put_held, woken_until, woken, leased_if, put_into}
+use Rattle.task_bucket.specs.inner.Held.{slot_in, lease_in, slot_before, lease_before, slots_in, leases_in, lists_in, ArePast, AreRising, until_allows, candidates, is_free, is_idle, place_for, put_held, woken_until, woken, leased_if, put_into}
 use Rattle.std.proofs.lemmas.List.{append-nil, take_all}
 use Rattle.fb_bytes.proofs.Mapped.{drop-all}
 use Rattle.task_bucket.proofs.Picks.{picked_in}

@@ -3,7 +3,7 @@ use Rattle.std.proofs.Common.{◌≡◌, ℕ, zero, suc, ◌+◌, ◌<◌, ◌�
 use Rattle.std.specs.List.Sorted.{IsPartitionedBy, IsPartitionPoint}
 use Rattle.std.proofs.lemmas.Bool.{ne_eqb, lt-ltb, le-ltb, ltb-true, ltb-false, le-leb, leb-true, leb-false}
 use Rattle.task_bucket.specs.declared.held.Held.{Held}
-use Rattle.task_bucket.specs.Held.{ArePast, AreRising, until_is, held_is, first_held, place_for, lesser_count, leased_if, retimed_until, retimed_held}
+use Rattle.task_bucket.specs.inner.Held.{ArePast, AreRising, until_is, held_is, first_held, place_for, lesser_count, leased_if, retimed_until, retimed_held}
 
 past_at : (u : ℕ) (hs : List Held) (j : ℕ) (d : Held) → ArePast u hs → j < length hs → u < (get_or hs j d).uid
 past_at u [] j d p lt = absurd (omega arith)

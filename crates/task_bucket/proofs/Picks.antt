@@ -6,7 +6,7 @@ use Rattle.fb_bytes.specs.Options.{IsIn, better_of, best_of}
 use Rattle.task_bucket.specs.declared.held.Held.{Held}
 use Rattle.task_bucket.specs.Lists.{Slot}
 use Rattle.task_bucket.specs.Claims.{has_greater_uid, has_lesser_uid, is_at_or_below, or_least, picked}
-use Rattle.task_bucket.specs.Held.{slot_in, candidate, candidates}
+use Rattle.task_bucket.specs.inner.Held.{slot_in, candidate, candidates}
 
 -- all of these have lesser uids
 abbrev pub AreBelow : ℕ → List Slot → Type 0

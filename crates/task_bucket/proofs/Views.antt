@@ -8,7 +8,7 @@ use Rattle.fb_bytes.specs.Options.{IsIn}
 use Rattle.task_bucket.specs.declared.held.Held.{Held}
 use Rattle.task_bucket.specs.Lists.{Lease, Slot, Lists, slot_with, lease_with, any_of, put_slot, put_lease, without_uid, without_job, is_lease, is_leased}
 use Rattle.task_bucket.specs.Leases.{extended_in, retimed_if, retimed_in, finished_in}
-use Rattle.task_bucket.specs.Held.{slot_in, lease_in, slot_before, lease_before, slots_in, leases_in, lists_in, ArePast, AreRising, until_is, held_is, retimed_until, retimed_held, first_held}
+use Rattle.task_bucket.specs.inner.Held.{slot_in, lease_in, slot_before, lease_before, slots_in, leases_in, lists_in, ArePast, AreRising, until_is, held_is, retimed_until, retimed_held, first_held}
 
 both : List Slot → List Lease → Lists
 both slots leases = record { available = slots; leased = leases }

@@ -11,7 +11,7 @@ use Rattle.task_bucket.specs.declared.held.Held.{Held}
 use Rattle.task_bucket.specs.Lists.{Slot}
 use Rattle.fb_bytes.specs.Options.{best_of}
 use Rattle.task_bucket.specs.Claims.{picked, or_least, is_at_or_below, has_greater_uid}
-use Rattle.task_bucket.specs.Held.{slot_in, slots_in, ArePast, AreRising, until_allows, candidate, candidates, is_free, is_idle, or_due, place_for, place_at}
+use Rattle.task_bucket.specs.inner.Held.{slot_in, slots_in, ArePast, AreRising, until_allows, candidate, candidates, is_free, is_idle, or_due, place_for, place_at}
 use Rattle.task_bucket.proofs.Views.{past_less}
 use Rattle.task_bucket.proofs.Picks.{AreBelow, step_of, picked_push, candidates-append}
 use Rattle.task_bucket.proofs.Claiming.{place_within, none_free, candidates_free, some_slots}

@@ -1,4 +1,4 @@
 pub mod Lists
 pub mod Claims
 pub mod Leases
-pub mod Held
+pub mod inner

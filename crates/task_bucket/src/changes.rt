@@ -5,7 +5,7 @@ ghost use Rattle.std.specs.List.{filter};
 ghost use Rattle.task_bucket.specs.Lists.{has_uid, without_uid, without_job, is_leased};
 ghost use Rattle.task_bucket.specs.Claims.{claimed, after_claim};
 ghost use Rattle.task_bucket.specs.Leases.{extended_in, retimed_in, finished_in};
-ghost use Rattle.task_bucket.specs.Held.{AreRising, held_is, lists_in, put_into};
+ghost use Rattle.task_bucket.specs.inner.Held.{AreRising, held_is, lists_in, put_into};
 
 use crate::held::{Held, find, is_leased, lease_out, picked, place_for, retime, wake_if};
 use crate::{Lease, LeaseFault};

@@ -1,7 +1,7 @@
 //! The tasks of a bucket in one list, each available or leased.
 
 ghost use Rattle.std.specs.Prelude.{◌≡◌, ◌<◌, ◌≤◌, ◌==◌, if◌then◌else◌, true, not, length, map, option_map, option_copied, IfSome};
-ghost use Rattle.task_bucket.specs.Held.{held_is, candidate, candidates, AreRising, is_free, is_idle, place_for, place_at, lesser_count, or_due, slot_in, woken, leased_if, retimed_held, first_held, leases_in, lists_in, least_of};
+ghost use Rattle.task_bucket.specs.inner.Held.{held_is, candidate, candidates, AreRising, is_free, is_idle, place_for, place_at, lesser_count, or_due, slot_in, woken, leased_if, retimed_held, first_held, leases_in, lists_in, least_of};
 ghost use Rattle.task_bucket.specs.Lists.{is_leased, least_until};
 ghost use Rattle.task_bucket.specs.Claims.{picked};
 

@@ -18,7 +18,7 @@ impl Model for ListBucket {
 
     ghost Value = { Lists };
 
-    ghost use Rattle.task_bucket.specs.Held.{lists_in, AreRising};
+    ghost use Rattle.task_bucket.specs.inner.Held.{lists_in, AreRising};
 
     ghost view = { λ b. lists_in b.held.items };
 

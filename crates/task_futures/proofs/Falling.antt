@@ -4,8 +4,9 @@ use Rattle.std.specs.List.{filter}
 use Rattle.std.proofs.lemmas.List.{append-nil, take_all, take_more}
 use borrow.Rule.Slice.PartMut.{put_mid, mid_of}
 use Rattle.fb_bytes.proofs.Mapped.{drop-all}
-use Rattle.task_futures.specs.Futures.{Part, SeenFuture, is_part, falls, is_some_block, left, kept_joins, passed_on, settle, cleared_by, first_settled, head_settled}
-use Rattle.task_futures.specs.Changes.{cleared, emptied, lesser_count}
+use Rattle.task_futures.specs.Futures.{Part, SeenFuture, is_part, falls, is_some_block, left, kept_joins, passed_on, settle}
+use Rattle.task_futures.specs.inner.Futures.{cleared_by, first_settled, head_settled}
+use Rattle.task_futures.specs.inner.Changes.{cleared, emptied, lesser_count}
 use Rattle.task_futures.specs.Laws.{AreRising, HasPassedOn, HavePassedOn, AreFutures}
 use Rattle.task_futures.proofs.Finding.{rising_head, rising_map, passed_open, cleared_there, cleared_none}
 

@@ -4,9 +4,10 @@ use Rattle.std.specs.List.{filter}
 use Rattle.std.specs.List.Sorted.{IsPartitionedBy, IsPartitionPoint}
 use Rattle.std.proofs.lemmas.Bool.{eqb-true, eq-eqb, ne_eqb, lt-ltb, le-ltb, ltb-true, ltb-false}
 use Rattle.std.proofs.lemmas.List.Sums.{prefix_len_is}
-use Rattle.task_futures.specs.Futures.{Part, SeenFuture, fresh_with, greatest_number, is_made, blocks_of, is_open, is_some_block, place_of, is_part, cleared_by, first_settled, head_settled}
+use Rattle.task_futures.specs.Futures.{Part, SeenFuture, fresh_with, greatest_number, is_made, blocks_of, is_open, is_some_block, is_part}
+use Rattle.task_futures.specs.inner.Futures.{place_of, cleared_by, first_settled, head_settled}
 use Rattle.task_futures.specs.Laws.{ArePast, AreRising, HasPassedOn, HavePassedOn}
-use Rattle.task_futures.specs.Changes.{is_lesser, lesser_count, cleared}
+use Rattle.task_futures.specs.inner.Changes.{is_lesser, lesser_count, cleared}
 
 -- ---- halving
 

@@ -5,7 +5,7 @@ use Rattle.std.proofs.lemmas.Bool.{eqb-true, eq-eqb, ne_eqb}
 use Rattle.std.proofs.lemmas.List.{append-nil, length-append, get_or_default, take_all, take_more}
 use Rattle.fb_bytes.proofs.Mapped.{drop-all}
 use Rattle.task_futures.specs.Futures.{Part, SeenFuture, blocks_of, is_open, is_some_block, links_of, linked, next_number}
-use Rattle.task_futures.specs.Changes.{is_open_one, and_link, front, less_link, with_link, without_link, unlinked, linked_by, lesser_count}
+use Rattle.task_futures.specs.inner.Changes.{is_open_one, and_link, front, less_link, with_link, without_link, unlinked, linked_by, lesser_count}
 use Rattle.task_futures.specs.Laws.{AreRising}
 use Rattle.task_futures.proofs.Finding.{open_at, changed_there, changed_none, missing_all, rising_map}
 

@@ -2,9 +2,10 @@
 use Rattle.std.proofs.Common.{◌≡◌, ℕ, suc, ◌+◌, ◌<◌, Bool, true, false, cond, ◌||◌, eqb, List, [], ◌∷◌, ◌++◌, length, get_or, set, take, drop, refl, sym, ap, subst, ◌∙◌, Result, Ok, Err, arith}
 use Rattle.std.specs.Prelude.{OnOk, IfOk}
 use Rattle.std.proofs.lemmas.List.{append-nil, get_or_default, take_all}
-use Rattle.task_futures.specs.Futures.{SeenFuture, is_made, blocks_of, changed, place_of, is_open, is_some_block}
+use Rattle.task_futures.specs.Futures.{SeenFuture, is_made, blocks_of, changed, is_open, is_some_block}
+use Rattle.task_futures.specs.inner.Futures.{place_of}
 use Rattle.fb_bytes.proofs.Mapped.{drop-all}
-use Rattle.task_futures.specs.Changes.{lesser_count}
+use Rattle.task_futures.specs.inner.Changes.{lesser_count}
 use Rattle.task_futures.specs.Laws.{AreRising, AreFutures}
 use Rattle.task_futures.proofs.Finding.{made_place}
 

@@ -64,11 +64,6 @@ changed number change [] = []
 changed number change (f ∷ fs) =
     if f.number == number then change f ∷ fs else f ∷ changed number change fs
 
--- where it stands
-abbrev pub place_of : ℕ → List SeenFuture → ℕ
-place_of number [] = 0
-place_of number (f ∷ fs) = if f.number == number then 0 else place_of number fs + 1
-
 -- ---- what is added
 
 abbrev pub with_fresh : List SeenFuture → List SeenFuture
@@ -159,27 +154,6 @@ settled pending f =
       callbacks = f.callbacks;
       joins = kept_joins (left pending f.number f.blocks) f.joins;
     }
-
--- without the blocks that fall
-abbrev pub cleared_by : List Part → SeenFuture → SeenFuture
-cleared_by pending f =
-    record {
-      number = f.number;
-      blocks = left pending f.number f.blocks;
-      callbacks = f.callbacks;
-      joins = f.joins;
-    }
-
--- the first passes its joins on to the others, where it is set
-abbrev pub first_settled : List ℕ → SeenFuture → List SeenFuture → List SeenFuture
-first_settled [] f fs =
-    record { number = f.number; blocks = []; callbacks = f.callbacks; joins = [] } ∷ map
-    (cleared_by f.joins) fs
-first_settled (b ∷ bs) f fs = f ∷ fs
-
-abbrev pub head_settled : List SeenFuture → List SeenFuture
-head_settled [] = []
-head_settled (f ∷ fs) = first_settled f.blocks f fs
 
 abbrev pub settle : List Part → List SeenFuture → List SeenFuture
 settle pending [] = []

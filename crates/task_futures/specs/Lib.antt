@@ -1,3 +1,3 @@
 pub mod Futures
-pub mod Changes
 pub mod Laws
+pub mod inner

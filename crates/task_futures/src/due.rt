@@ -3,7 +3,7 @@
 ghost use Rattle.std.specs.Prelude.{◌≡◌, [], ◌∷◌, IfOk};
 ghost use Rattle.task_futures.specs.Laws.{AreRising, AreFutures};
 ghost use Rattle.task_futures.specs.Futures.{newly_set, settle};
-ghost use Rattle.task_futures.specs.Changes.{nearer, nearest, IsNext};
+ghost use Rattle.task_futures.specs.inner.Changes.{nearer, nearest, IsNext};
 
 use crate::future::Future;
 use crate::settling::place_of;

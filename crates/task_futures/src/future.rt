@@ -1,7 +1,7 @@
 ghost use Rattle.std.specs.Prelude.{◌≡◌, ◌+◌, ◌≤◌, ◌++◌, ◌==◌, not, [], IfOk, OnOk, OnErr, if◌then◌else◌};
 ghost use Rattle.std.specs.List.{filter};
 ghost use Rattle.task_futures.specs.Futures.{next_block, is_part, is_some_block, left};
-ghost use Rattle.task_futures.specs.Changes.{front};
+ghost use Rattle.task_futures.specs.inner.Changes.{front};
 ghost use Rattle.fb_bytes.specs.Limits.{most_number};
 
 use crate::part::falls;
@@ -83,7 +83,7 @@ fn has_left(blocks: &[u64], pending: &[Part], number: u64) -> bool
 
 impl Future {
     ghost use Rattle.task_futures.specs.Futures.{SeenFuture, fresh_with, next_block, and_block, and_callback, is_some_block, left, is_part, unjoined, passed_on, becomes_set};
-    ghost use Rattle.task_futures.specs.Changes.{cleared, emptied, is_open_one, and_link, less_link};
+    ghost use Rattle.task_futures.specs.inner.Changes.{cleared, emptied, is_open_one, and_link, less_link};
 
     pub fn new(alloc: Global, number: u64, blocks: Vec<u64>) -> Self
         ensures { result ≡ fresh_with number blocks.items }

@@ -3,7 +3,7 @@
 ghost use Rattle.std.specs.Prelude.{◌≡◌, ◌<◌, ◌+◌, ◌^◌, map, if◌then◌else◌, IfOk, OnOk, OnErr};
 ghost use Rattle.task_futures.specs.Laws.{AreRising};
 ghost use Rattle.task_futures.specs.Futures.{is_open, linked, next_number};
-ghost use Rattle.task_futures.specs.Changes.{with_link, without_link, unlinked};
+ghost use Rattle.task_futures.specs.inner.Changes.{with_link, without_link, unlinked};
 
 use crate::Part;
 use crate::future::Future;

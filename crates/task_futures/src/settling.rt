@@ -2,8 +2,9 @@
 
 ghost use Rattle.std.specs.Prelude.{◌≡◌, ◌≤◌, ◌<◌, [], ◌∷◌, ◌++◌, map, take, drop, length};
 ghost use Rattle.task_futures.specs.Laws.{AreRising, AreFutures, HavePassedOn};
-ghost use Rattle.task_futures.specs.Futures.{greatest_number, is_open, unjoined, cleared_by, head_settled, settle};
-ghost use Rattle.task_futures.specs.Changes.{cleared, lesser_count};
+ghost use Rattle.task_futures.specs.Futures.{greatest_number, is_open, unjoined, settle};
+ghost use Rattle.task_futures.specs.inner.Futures.{cleared_by, head_settled};
+ghost use Rattle.task_futures.specs.inner.Changes.{cleared, lesser_count};
 
 use crate::Part;
 use crate::future::Future;

@@ -4,9 +4,11 @@ use Rattle.std.specs.List.{slice_get, slice_set, AllByRecursion}
 use Rattle.fb_bytes.specs.Bytes.{Bytes, is_below, is_same}
 use Rattle.fb_bytes.proofs.Order.{not_both, below_trans, same_eq, same_itself, below_not_same, neither_below}
 use Rattle.mutations.proofs.Basics.{by_test, all_weaker}
-use Rattle.versioned_kv.specs.Chains.{Row, Chain, AreRising, AreChains, keys_below, rows_of}
-use Rattle.versioned_kv.specs.Chunks.{joined, AreFilled, AreKeysBelow, AreKeysPast, BelongsTo}
-use Rattle.versioned_kv.specs.Edits.{with_rows, without_rows, without, changed_at, is_chain_of}
+use Rattle.versioned_kv.specs.Chains.{Row, Chain, rows_of}
+use Rattle.versioned_kv.specs.inner.Chains.{AreRising, AreChains, keys_below}
+use Rattle.versioned_kv.specs.inner.Chunks.{joined, AreFilled, AreKeysBelow, AreKeysPast, BelongsTo}
+use Rattle.versioned_kv.specs.Edits.{with_rows, without_rows, without}
+use Rattle.versioned_kv.specs.inner.Edits.{changed_at, is_chain_of}
 use Rattle.versioned_kv.specs.Forgotten.{forgotten, all_forgotten}
 use Rattle.versioned_kv.proofs.Search.{all_at}
 use Rattle.versioned_kv.proofs.Values.{above_not_same, later_keys}

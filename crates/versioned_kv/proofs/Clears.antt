@@ -6,8 +6,10 @@ use Rattle.fb_bytes.specs.declared.KeyRange.{KeyRange}
 use Rattle.fb_bytes.specs.Keys.{holds}
 use Rattle.fb_bytes.proofs.Order.{not_both, below_trans, below_up, same_eq}
 use Rattle.mutations.proofs.Basics.{by_test, all_weaker}
-use Rattle.versioned_kv.specs.Chains.{Row, Chain, AreRising, AreChains, has_key_below, keys_below, value_in, rows_of, value_at}
-use Rattle.versioned_kv.specs.Edits.{put_row, without_rows, with_rows, without, clear_chain, cleared_upto, AreRowsUpto, AreUpto, Extends}
+use Rattle.versioned_kv.specs.Chains.{Row, Chain, value_in, rows_of, value_at}
+use Rattle.versioned_kv.specs.inner.Chains.{AreRising, AreChains, has_key_below, keys_below}
+use Rattle.versioned_kv.specs.Edits.{without_rows, with_rows, without}
+use Rattle.versioned_kv.specs.inner.Edits.{put_row, clear_chain, cleared_upto, AreRowsUpto, AreUpto, Extends}
 use Rattle.versioned_kv.proofs.Search.{front_upto}
 use Rattle.versioned_kv.proofs.Places.{some_at}
 use Rattle.versioned_kv.proofs.Values.{later_keys}

@@ -6,9 +6,11 @@ use Rattle.fb_bytes.specs.Bytes.{Bytes, is_below, is_same}
 use Rattle.fb_bytes.specs.Options.{IsIn}
 use Rattle.fb_bytes.proofs.Order.{same_eq}
 use Rattle.mutations.proofs.Basics.{by_test, all_weaker}
-use Rattle.versioned_kv.specs.Chains.{Row, Chain, AreRising, AreChains, value_in, rows_of, value_at}
-use Rattle.versioned_kv.specs.Edits.{without_rows, with_rows, without, AreRowsUpto, AreUpto, Extends}
-use Rattle.versioned_kv.specs.Sound.{AreVersions, AreOf}
+use Rattle.versioned_kv.specs.Chains.{Row, Chain, value_in, rows_of, value_at}
+use Rattle.versioned_kv.specs.inner.Chains.{AreRising, AreChains}
+use Rattle.versioned_kv.specs.Edits.{without_rows, with_rows, without}
+use Rattle.versioned_kv.specs.inner.Edits.{AreRowsUpto, AreUpto, Extends}
+use Rattle.versioned_kv.specs.inner.Sound.{AreVersions, AreOf}
 use Rattle.versioned_kv.proofs.Lists.{AreRowsBelow, without_below}
 use Rattle.versioned_kv.proofs.Values.{later_keys}
 use Rattle.versioned_kv.proofs.Puts.{rising_without, value_without}

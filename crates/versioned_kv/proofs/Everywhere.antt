@@ -7,9 +7,11 @@ use Rattle.fb_bytes.specs.Keys.{holds}
 use Rattle.fb_bytes.proofs.Order.{below_not_back}
 use Rattle.fb_bytes.proofs.Mapped.{mapped}
 use Rattle.mutations.proofs.Basics.{all_weaker}
-use Rattle.versioned_kv.specs.Chains.{Row, Chain, AreChains, has_key_below, keys_below, value_at}
-use Rattle.versioned_kv.specs.Edits.{with_rows, clear_chain, cleared_upto, all_cleared, IsClearedUpto, AreUpto, Extends}
-use Rattle.versioned_kv.specs.Chunks.{joined, AreFilled, AreKeysBelow, AreKeysPast, BelongsTo}
+use Rattle.versioned_kv.specs.Chains.{Row, Chain, value_at}
+use Rattle.versioned_kv.specs.inner.Chains.{AreChains, has_key_below, keys_below}
+use Rattle.versioned_kv.specs.Edits.{with_rows}
+use Rattle.versioned_kv.specs.inner.Edits.{clear_chain, cleared_upto, all_cleared, IsClearedUpto, AreUpto, Extends}
+use Rattle.versioned_kv.specs.inner.Chunks.{joined, AreFilled, AreKeysBelow, AreKeysPast, BelongsTo}
 use Rattle.versioned_kv.proofs.Search.{front_upto}
 use Rattle.versioned_kv.proofs.Clears.{AreFrom, from_drop, clear_extends, value_clear}
 use Rattle.versioned_kv.proofs.Joined.{assoc, all_parts, cut_joined, filled_set, filled_at, past_later}

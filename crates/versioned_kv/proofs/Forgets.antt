@@ -7,9 +7,10 @@ use Rattle.fb_bytes.specs.Options.{IsIn}
 use Rattle.fb_bytes.proofs.Order.{not_both}
 use Rattle.mutations.specs.declared.batch.Batch.{Batch}
 use Rattle.mutations.proofs.Basics.{by_test, all_weaker}
-use Rattle.versioned_kv.specs.Chains.{Row, Chain, AreRising, AreChains, rows_upto, value_in, rows_of}
+use Rattle.versioned_kv.specs.Chains.{Row, Chain, rows_upto, value_in, rows_of}
+use Rattle.versioned_kv.specs.inner.Chains.{AreRising, AreChains}
 use Rattle.versioned_kv.specs.Forgotten.{rows_fallen, forgotten, all_forgotten}
-use Rattle.versioned_kv.specs.Sound.{AreOf}
+use Rattle.versioned_kv.specs.inner.Sound.{AreOf}
 use Rattle.versioned_kv.specs.Applied.{Holds}
 use Rattle.versioned_kv.proofs.Values.{later_rows, no_value, value_there, rest_upto, rows_rise}
 use Rattle.versioned_kv.proofs.Changes.{forgotten_is, chains_each, all_each, rows_each}

@@ -10,9 +10,11 @@ use Rattle.mutations.specs.Effects.{effects}
 use Rattle.mutations.specs.Replay.{is_within, AreRising}
 use Rattle.mutations.proofs.Basics.{all_weaker}
 use Rattle.mutations.proofs.Replays.{within_is, above_within, replayed_append, replayed_agree}
-use Rattle.versioned_kv.specs.Chains.{Row, Chain, AreChains, value_in, rows_of, value_at}
-use Rattle.versioned_kv.specs.Edits.{without, AreUpto, Extends}
-use Rattle.versioned_kv.specs.Sound.{AreVersions, AreOf, IsSound}
+use Rattle.versioned_kv.specs.Chains.{Row, Chain, value_in, rows_of, value_at}
+use Rattle.versioned_kv.specs.inner.Chains.{AreChains}
+use Rattle.versioned_kv.specs.Edits.{without}
+use Rattle.versioned_kv.specs.inner.Edits.{AreUpto, Extends}
+use Rattle.versioned_kv.specs.inner.Sound.{AreVersions, AreOf, IsSound}
 use Rattle.versioned_kv.specs.Applied.{Contents, Holds, IsPast, IsRetractable, applied_at, with_entry}
 use Rattle.versioned_kv.proofs.Puts.{value_without}
 use Rattle.versioned_kv.proofs.Cuts.{rows_left, value_below, value_later, value_back, upto_below, below_all, left_alone, versions_end, of_more, front_versions, chains_left, of_fewer, all_in, in_last}

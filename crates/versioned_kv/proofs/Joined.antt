@@ -5,9 +5,10 @@ use Rattle.std.proofs.lemmas.List.{take-append-drop}
 use Rattle.fb_bytes.specs.Bytes.{Bytes, is_below, is_same}
 use Rattle.fb_bytes.proofs.Order.{below_trans, below_up, below_not_back, below_not_same}
 use Rattle.mutations.proofs.Basics.{by_test, all_weaker}
-use Rattle.versioned_kv.specs.Chains.{Row, Chain, AreChains, rows_of}
-use Rattle.versioned_kv.specs.Edits.{put_row, put_at, AreUpto, AreRowsUpto}
-use Rattle.versioned_kv.specs.Chunks.{joined, AreFilled, AreKeysBelow, AreKeysPast, BelongsTo}
+use Rattle.versioned_kv.specs.Chains.{Row, Chain, rows_of}
+use Rattle.versioned_kv.specs.inner.Chains.{AreChains}
+use Rattle.versioned_kv.specs.inner.Edits.{put_row, put_at, AreUpto, AreRowsUpto}
+use Rattle.versioned_kv.specs.inner.Chunks.{joined, AreFilled, AreKeysBelow, AreKeysPast, BelongsTo}
 use Rattle.versioned_kv.proofs.Values.{later_keys, above_not_same}
 
 -- ---- lists

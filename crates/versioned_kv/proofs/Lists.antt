@@ -3,8 +3,10 @@ use Rattle.std.proofs.Common.{◌≡◌, ℕ, suc, ◌-◌, ◌<◌, ◌≤◌, 
 use Rattle.std.specs.List.{slice_get, slice_set, AllByRecursion}
 use Rattle.std.proofs.lemmas.Bool.{cases_order, eq-eqb, ne_eqb, eqb-true, eqb-false}
 use Rattle.fb_bytes.proofs.Order.{not_both}
-use Rattle.versioned_kv.specs.Chains.{Row, AreRising}
-use Rattle.versioned_kv.specs.Edits.{without_rows, put_row, AreRowsUpto, is_row_of}
+use Rattle.versioned_kv.specs.Chains.{Row}
+use Rattle.versioned_kv.specs.inner.Chains.{AreRising}
+use Rattle.versioned_kv.specs.Edits.{without_rows}
+use Rattle.versioned_kv.specs.inner.Edits.{put_row, AreRowsUpto, is_row_of}
 
 -- rows that are all below a version
 abbrev pub AreRowsBelow : ℕ → List Row → Type 0

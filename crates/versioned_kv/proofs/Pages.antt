@@ -8,9 +8,11 @@ use Rattle.fb_bytes.specs.declared.Pair.{Pair}
 use Rattle.fb_bytes.specs.Pairs.{AreRising}
 use Rattle.fb_bytes.proofs.Order.{not_both, below_trans, below_not_back, same_eq}
 use Rattle.mutations.proofs.Basics.{all_weaker}
-use Rattle.versioned_kv.specs.Chains.{Row, Chain, AreChains, value_in, rows_of, value_at}
-use Rattle.versioned_kv.specs.Chunks.{joined, AreKeysBelow, AreKeysPast, BelongsTo}
-use Rattle.versioned_kv.specs.Pages.{IsPage, pair_of, pairs_in, range_upto, IsPart}
+use Rattle.versioned_kv.specs.Chains.{Row, Chain, value_in, rows_of, value_at}
+use Rattle.versioned_kv.specs.inner.Chains.{AreChains}
+use Rattle.versioned_kv.specs.inner.Chunks.{joined, AreKeysBelow, AreKeysPast, BelongsTo}
+use Rattle.versioned_kv.specs.Pages.{IsPage}
+use Rattle.versioned_kv.specs.inner.Pages.{pair_of, pairs_in, range_upto, IsPart}
 use Rattle.versioned_kv.proofs.Joined.{assoc, none_behind as append_none, all_parts, chains_parts, cut_joined, parted, past_later, rows_joined}
 use Rattle.versioned_kv.proofs.Scans.{none_behind, none_before, in_both, in_rise, last_page, full_page}
 

@@ -4,7 +4,7 @@ use Rattle.std.specs.List.{slice_get, slice_set}
 use Rattle.std.proofs.lemmas.Option.{slice_get_read}
 use Rattle.fb_bytes.specs.Bytes.{Bytes, is_same}
 use Rattle.versioned_kv.specs.Chains.{Chain}
-use Rattle.versioned_kv.specs.Edits.{is_chain_of}
+use Rattle.versioned_kv.specs.inner.Edits.{is_chain_of}
 
 pub on_ok : {A E : Type 0} {P Q : Type 0} (r : Result A E) → (P → Q) → OnOk r P → OnOk r Q
 on_ok (Ok x) f h = f h

@@ -5,8 +5,10 @@ use Rattle.std.proofs.lemmas.Bool.{cases_eq, cases_order, eq-eqb, ne_eqb, le-leb
 use Rattle.fb_bytes.specs.Bytes.{Bytes, is_below, is_same}
 use Rattle.fb_bytes.proofs.Order.{not_both, below_trans, below_itself, same_eq, same_itself, neither_below}
 use Rattle.mutations.proofs.Basics.{by_test, all_weaker}
-use Rattle.versioned_kv.specs.Chains.{Row, Chain, AreRising, AreChains, keys_below, value_in, rows_of, value_at}
-use Rattle.versioned_kv.specs.Edits.{without_rows, put_row, put_at, with_rows, without, is_chain_of, AreRowsUpto, AreUpto, Extends}
+use Rattle.versioned_kv.specs.Chains.{Row, Chain, value_in, rows_of, value_at}
+use Rattle.versioned_kv.specs.inner.Chains.{AreRising, AreChains, keys_below}
+use Rattle.versioned_kv.specs.Edits.{without_rows, with_rows, without}
+use Rattle.versioned_kv.specs.inner.Edits.{put_row, put_at, is_chain_of, AreRowsUpto, AreUpto, Extends}
 use Rattle.versioned_kv.proofs.Lists.{AreRowsBelow}
 use Rattle.versioned_kv.proofs.Values.{later_keys}
 

@@ -6,12 +6,14 @@ use Rattle.fb_bytes.specs.Bytes.{Bytes, is_same}
 use Rattle.fb_bytes.specs.Options.{IsIn}
 use Rattle.fb_bytes.proofs.Order.{not_both, same_eq, same_itself}
 use Rattle.mutations.proofs.Basics.{by_test, all_weaker, all_so}
-use Rattle.versioned_kv.specs.Chains.{Row, Chain, AreRising, AreChains, rows_upto, rows_of}
-use Rattle.versioned_kv.specs.Chunks.{joined}
-use Rattle.versioned_kv.specs.Edits.{without_rows, without, changed_at, AreRowsUpto, AreUpto}
+use Rattle.versioned_kv.specs.Chains.{Row, Chain, rows_upto, rows_of}
+use Rattle.versioned_kv.specs.inner.Chains.{AreRising, AreChains}
+use Rattle.versioned_kv.specs.inner.Chunks.{joined}
+use Rattle.versioned_kv.specs.Edits.{without_rows, without}
+use Rattle.versioned_kv.specs.inner.Edits.{changed_at, AreRowsUpto, AreUpto}
 use Rattle.versioned_kv.specs.Forgotten.{forgotten, all_forgotten}
 use Rattle.versioned_kv.specs.Touched.{RowsStay}
-use Rattle.versioned_kv.specs.Queued.{Touch, touch, IsNoted, AreRowsNoted, AreNoted, AreInOrder, AreTouchesUpto, AreTouchesBelow, AreTouchesPast, Notes, Falls, AreRowsKept, MayFall, AreDue}
+use Rattle.versioned_kv.specs.inner.Queued.{Touch, touch, IsNoted, AreRowsNoted, AreNoted, AreInOrder, AreTouchesUpto, AreTouchesBelow, AreTouchesPast, Notes, Falls, AreRowsKept, MayFall, AreDue}
 use Rattle.versioned_kv.proofs.Search.{all_at}
 use Rattle.versioned_kv.proofs.Puts.{all_without, rising_without}
 use Rattle.versioned_kv.proofs.Cuts.{AreBelow}

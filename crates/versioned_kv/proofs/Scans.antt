@@ -8,8 +8,10 @@ use Rattle.fb_bytes.specs.declared.Pair.{Pair}
 use Rattle.fb_bytes.specs.Pairs.{value_of, KeyPast, AreRising}
 use Rattle.fb_bytes.proofs.Order.{not_both, below_trans, below_down, same_eq, same_itself, below_itself}
 use Rattle.mutations.proofs.Basics.{by_test}
-use Rattle.versioned_kv.specs.Chains.{Row, Chain, AreChains, keys_below, value_in, rows_of, value_at}
-use Rattle.versioned_kv.specs.Pages.{IsPage, IsNext, pair_of, pairs_in, range_upto, IsPart}
+use Rattle.versioned_kv.specs.Chains.{Row, Chain, value_in, rows_of, value_at}
+use Rattle.versioned_kv.specs.inner.Chains.{AreChains, keys_below}
+use Rattle.versioned_kv.specs.Pages.{IsPage, IsNext}
+use Rattle.versioned_kv.specs.inner.Pages.{pair_of, pairs_in, range_upto, IsPart}
 use Rattle.versioned_kv.proofs.Values.{later_keys, rows_here}
 use Rattle.versioned_kv.proofs.Clears.{AreFrom, from_drop, at_or_past, range_has}
 

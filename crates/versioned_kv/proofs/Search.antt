@@ -6,7 +6,8 @@ use Rattle.std.proofs.lemmas.Bool.{le-leb, leb-true}
 use Rattle.fb_bytes.specs.Bytes.{Bytes, is_below}
 use Rattle.fb_bytes.proofs.Order.{not_both, below_trans}
 use Rattle.mutations.proofs.Basics.{by_test, all_weaker}
-use Rattle.versioned_kv.specs.Chains.{Row, Chain, AreRising, AreChains, front_len, has_key_below, keys_below, is_row_upto, rows_upto}
+use Rattle.versioned_kv.specs.Chains.{Row, Chain, front_len, is_row_upto, rows_upto}
+use Rattle.versioned_kv.specs.inner.Chains.{AreRising, AreChains, has_key_below, keys_below}
 
 -- once an entry fails, all behind it do
 abbrev pub TurnsOnce : {A : Type 0} → (A → Bool) → List A → Type 0

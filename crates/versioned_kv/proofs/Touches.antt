@@ -10,11 +10,14 @@ use Rattle.fb_bytes.proofs.Order.{not_both, same_eq, same_itself, below_not_same
 use Rattle.mutations.specs.declared.mutation.Mutation.{Mutation}
 use Rattle.mutations.specs.Effects.{touches_key}
 use Rattle.mutations.proofs.Basics.{by_test, all_weaker}
-use Rattle.versioned_kv.specs.Chains.{Row, Chain, AreRising, AreChains, value_in, rows_of}
-use Rattle.versioned_kv.specs.Edits.{put_row, put_at, without_rows, clear_chain, cleared_upto, IsClearedUpto, Extends}
-use Rattle.versioned_kv.specs.Sound.{AreOf}
+use Rattle.versioned_kv.specs.Chains.{Row, Chain, value_in, rows_of}
+use Rattle.versioned_kv.specs.inner.Chains.{AreRising, AreChains}
+use Rattle.versioned_kv.specs.Edits.{without_rows}
+use Rattle.versioned_kv.specs.inner.Edits.{put_row, put_at, clear_chain, cleared_upto, IsClearedUpto, Extends}
+use Rattle.versioned_kv.specs.inner.Sound.{AreOf}
 use Rattle.versioned_kv.specs.Applied.{IsPast}
-use Rattle.versioned_kv.specs.Touched.{touched, has_value_in, RowsStay, WritesAt}
+use Rattle.versioned_kv.specs.Touched.{touched, RowsStay, WritesAt}
+use Rattle.versioned_kv.specs.inner.Touched.{has_value_in}
 use Rattle.versioned_kv.proofs.Values.{rows_rise}
 use Rattle.versioned_kv.proofs.Puts.{rows_put}
 use Rattle.versioned_kv.proofs.Cuts.{rows_left}

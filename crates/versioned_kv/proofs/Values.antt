@@ -6,7 +6,8 @@ use Rattle.std.proofs.lemmas.Option.{slice_get_past}
 use Rattle.fb_bytes.specs.Bytes.{Bytes, is_below, is_same}
 use Rattle.fb_bytes.proofs.Order.{not_both, below_trans, below_itself, same_eq, same_itself, below_not_same, neither_below}
 use Rattle.mutations.proofs.Basics.{by_test, all_weaker}
-use Rattle.versioned_kv.specs.Chains.{Row, Chain, AreRising, AreChains, keys_below, rows_upto, value_in, rows_of}
+use Rattle.versioned_kv.specs.Chains.{Row, Chain, rows_upto, value_in, rows_of}
+use Rattle.versioned_kv.specs.inner.Chains.{AreRising, AreChains, keys_below}
 
 -- ---- rows
 

@@ -4,11 +4,12 @@ use Rattle.std.specs.List.{AllByRecursion}
 use Rattle.fb_bytes.specs.Options.{IsIn}
 use Rattle.mutations.proofs.Basics.{all_weaker}
 use Rattle.versioned_kv.specs.Chains.{Row, Chain, rows_of}
-use Rattle.versioned_kv.specs.Edits.{without_rows, without, Extends}
+use Rattle.versioned_kv.specs.Edits.{without_rows, without}
+use Rattle.versioned_kv.specs.inner.Edits.{Extends}
 use Rattle.versioned_kv.specs.Forgotten.{all_forgotten}
-use Rattle.versioned_kv.specs.Sound.{AreVersions}
+use Rattle.versioned_kv.specs.inner.Sound.{AreVersions}
 use Rattle.versioned_kv.specs.Applied.{IsPast}
-use Rattle.versioned_kv.specs.Queued.{Touch, AreNoted, AreTouchesUpto, AreTouchesBelow, AreInOrder, Notes, Falls, AreRowsKept, IsWhole}
+use Rattle.versioned_kv.specs.inner.Queued.{Touch, AreNoted, AreTouchesUpto, AreTouchesBelow, AreInOrder, Notes, Falls, AreRowsKept, IsWhole}
 use Rattle.versioned_kv.proofs.Values.{rows_rise}
 use Rattle.versioned_kv.proofs.Joined.{all_parts, all_both}
 use Rattle.versioned_kv.proofs.Cuts.{rows_left, upto_of, in_last, in_front, in_end, all_in, below_all, front_versions}

@@ -21,29 +21,10 @@ rows_of (chain ∷ chains) key = if is_same chain.key key then chain.rows else r
 abbrev pub value_at : List Chain → Bytes → ℕ → Option Bytes
 value_at chains key version = value_in (rows_of chains key) version None
 
--- the versions of rows rise
-abbrev pub AreRising : List Row → Type 0
-AreRising [] = Unit {0}
-AreRising (row ∷ rows) = AllByRecursion (λ later. row.version < later.version) rows × AreRising rows
-
--- in the order of their keys, each key once, each with a row or more
-abbrev pub AreChains : List Chain → Type 0
-AreChains [] = Unit {0}
-AreChains (chain ∷ chains) =
-    AllByRecursion (λ later. is_below chain.key later.key ≡ true) chains × (0 < length chain.rows)
-    × AreRising chain.rows × AreChains chains
-
 -- how many entries at the front pass a test
 abbrev pub front_len : {A : Type 0} → (A → Bool) → List A → ℕ
 front_len test [] = zero
 front_len test (x ∷ xs) = if test x then suc (front_len test xs) else zero
-
--- how many keys come before a key
-abbrev pub has_key_below : Bytes → Chain → Bool
-has_key_below key chain = is_below chain.key key
-
-abbrev pub keys_below : Bytes → List Chain → ℕ
-keys_below key chains = front_len (has_key_below key) chains
 
 -- how many rows are at or below a version
 abbrev pub is_row_upto : ℕ → Row → Bool

@@ -2,11 +2,8 @@ pub mod Chains
 pub mod Applied
 pub mod Edits
 pub mod Touched
-pub mod Chunks
 pub mod Digits
-pub mod Sound
 pub mod Forgotten
-pub mod Queued
 pub mod Pages
 pub mod Laws
-pub mod Lends
+pub mod inner

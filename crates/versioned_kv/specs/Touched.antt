@@ -15,10 +15,6 @@ abbrev pub touched : List Mutation → Bytes → Bool
 touched [] key = false
 touched (m ∷ ms) key = touches_key m key || touched ms key
 
--- the range holds the key, and the key has a value
-abbrev pub has_value_in : KeyRange → ℕ → List Chain → Bytes → Bool
-has_value_in range version chains key = holds range key && is_some (value_at chains key version)
-
 -- where the test fails, the rows are as they were
 abbrev pub RowsStay : (Bytes → Bool) → List Chain → List Chain → Type 0
 RowsStay test old new = (key : Bytes) → test key ≡ false → rows_of new key ≡ rows_of old key

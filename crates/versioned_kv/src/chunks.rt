@@ -3,12 +3,14 @@
 ghost use Rattle.std.specs.Prelude.{◌≡◌, ℕ, suc, ◌+◌, ◌-◌, ◌*◌, ◌<◌, ◌≤◌, ◌^◌, min, List, [], length, take, drop, slice_get, slice_set, Some, IfOk, OnOk, OnErr};
 ghost use Rattle.std.specs.Option.{option_copied};
 ghost use Rattle.versioned_kv.specs.declared.chain.Chain.{Chain};
-ghost use Rattle.versioned_kv.specs.Chains.{AreChains, rows_of, value_at};
-ghost use Rattle.versioned_kv.specs.Chunks.{joined, AreFilled, BelongsTo};
+ghost use Rattle.versioned_kv.specs.Chains.{rows_of, value_at};
+ghost use Rattle.versioned_kv.specs.inner.Chains.{AreChains};
+ghost use Rattle.versioned_kv.specs.inner.Chunks.{joined, AreFilled, BelongsTo};
 ghost use Rattle.mutations.specs.Effects.{range_of};
-ghost use Rattle.versioned_kv.specs.Edits.{AreUpto, put_at, without_rows, changed_at, all_cleared, IsClearedUpto};
+ghost use Rattle.versioned_kv.specs.Edits.{without_rows};
+ghost use Rattle.versioned_kv.specs.inner.Edits.{AreUpto, put_at, changed_at, all_cleared, IsClearedUpto};
 ghost use Rattle.versioned_kv.specs.Forgotten.{forgotten};
-ghost use Rattle.versioned_kv.specs.Queued.{Notes, AreNoted};
+ghost use Rattle.versioned_kv.specs.inner.Queued.{Notes, AreNoted};
 ghost use Rattle.versioned_kv.specs.Pages.{IsPage};
 
 use crate::chain::{Chain, Row};

@@ -3,11 +3,14 @@ ghost use Rattle.std.specs.Option.{option_copied};
 ghost use Rattle.fb_bytes.specs.Bytes.{Bytes, is_same};
 ghost use Rattle.fb_bytes.specs.Keys.{holds};
 ghost use Rattle.mutations.specs.Effects.{range_of};
-ghost use Rattle.versioned_kv.specs.Chains.{AreChains, rows_of, value_at};
-ghost use Rattle.versioned_kv.specs.Edits.{AreUpto, without_rows, changed_at, Extends};
-ghost use Rattle.versioned_kv.specs.Touched.{RowsStay, has_value_in};
+ghost use Rattle.versioned_kv.specs.Chains.{rows_of, value_at};
+ghost use Rattle.versioned_kv.specs.inner.Chains.{AreChains};
+ghost use Rattle.versioned_kv.specs.Edits.{without_rows};
+ghost use Rattle.versioned_kv.specs.inner.Edits.{AreUpto, changed_at, Extends};
+ghost use Rattle.versioned_kv.specs.Touched.{RowsStay};
+ghost use Rattle.versioned_kv.specs.inner.Touched.{has_value_in};
 ghost use Rattle.versioned_kv.specs.Forgotten.{forgotten};
-ghost use Rattle.versioned_kv.specs.Queued.{Notes, AreNoted};
+ghost use Rattle.versioned_kv.specs.inner.Queued.{Notes, AreNoted};
 ghost use Rattle.versioned_kv.specs.Pages.{IsPage};
 
 use crate::chain::{Chain, Row};
@@ -28,7 +31,7 @@ pub struct Keys {
 impl Model for Keys {
     ghost use Rattle.std.specs.Prelude.{List};
     ghost use Rattle.versioned_kv.specs.declared.chain.Chain.{Chain};
-    ghost use Rattle.versioned_kv.specs.Chunks.{joined, AreFilled};
+    ghost use Rattle.versioned_kv.specs.inner.Chunks.{joined, AreFilled};
 
     ghost Value = { List Chain };
 

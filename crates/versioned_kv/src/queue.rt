@@ -1,5 +1,5 @@
 ghost use Rattle.std.specs.Prelude.{◌≡◌, ℕ, ◌≤◌, [], ◌∷◌, ◌++◌, OnOk, OnErr, MatchOption};
-ghost use Rattle.versioned_kv.specs.Queued.{touch, AreInOrder, AreTouchesUpto, AreTouchesBelow, AreTouchesPast};
+ghost use Rattle.versioned_kv.specs.inner.Queued.{touch, AreInOrder, AreTouchesUpto, AreTouchesBelow, AreTouchesPast};
 
 use fb_bytes::Blob;
 use std::alloc::{AllocError, Global};

@@ -3,13 +3,15 @@ ghost use Rattle.std.specs.Option.{option_copied};
 ghost use Rattle.mutations.specs.declared.batch.Batch.{Batch};
 ghost use Rattle.fb_bytes.specs.Bytes.{Bytes};
 ghost use Rattle.mutations.specs.Effects.{effects};
-ghost use Rattle.versioned_kv.specs.Chains.{AreChains, rows_of, value_at};
-ghost use Rattle.versioned_kv.specs.Edits.{AreUpto, Extends, without};
+ghost use Rattle.versioned_kv.specs.Chains.{rows_of, value_at};
+ghost use Rattle.versioned_kv.specs.inner.Chains.{AreChains};
+ghost use Rattle.versioned_kv.specs.Edits.{without};
+ghost use Rattle.versioned_kv.specs.inner.Edits.{AreUpto, Extends};
 ghost use Rattle.versioned_kv.specs.Touched.{touched, RowsStay, WritesAt};
 ghost use Rattle.versioned_kv.specs.Forgotten.{all_forgotten};
-ghost use Rattle.versioned_kv.specs.Queued.{Notes, Falls, AreNoted, AreInOrder, AreDue, AreTouchesUpto, AreTouchesBelow, AreTouchesPast};
+ghost use Rattle.versioned_kv.specs.inner.Queued.{Notes, Falls, AreNoted, AreInOrder, AreDue, AreTouchesUpto, AreTouchesBelow, AreTouchesPast};
 ghost use Rattle.versioned_kv.specs.Applied.{Holds, IsPast, IsRetractable, StandsWith, applied_at, with_entry};
-ghost use Rattle.versioned_kv.specs.Sound.{AreVersions};
+ghost use Rattle.versioned_kv.specs.inner.Sound.{AreVersions};
 ghost use Rattle.versioned_kv.specs.Pages.{IsPage};
 ghost use Rattle.versioned_kv.specs.Digits.{digits};
 
@@ -38,7 +40,7 @@ impl Model for Store {
 
     ghost Value = { Contents };
 
-    ghost use Rattle.versioned_kv.specs.Queued.{IsWhole};
+    ghost use Rattle.versioned_kv.specs.inner.Queued.{IsWhole};
 
     ghost view = { λ s. record { limit = s.limit; oldest = s.oldest; versions = s.versions.items; chains = s.chains } };
 

@@ -4,10 +4,11 @@ ghost use Rattle.std.specs.Prelude.{◌≡◌, IfOk, OnOk, if◌then◌else◌};
 ghost use Rattle.fb_bytes.specs.Bytes.{Bytes, is_same};
 ghost use Rattle.atomic_ops.specs.Operation.{operation, bytes_left};
 ghost use Rattle.mutations.specs.Effects.{effect, effects, touches_key};
-ghost use Rattle.versioned_kv.specs.Chains.{AreChains, value_at};
-ghost use Rattle.versioned_kv.specs.Edits.{AreUpto, Extends};
+ghost use Rattle.versioned_kv.specs.Chains.{value_at};
+ghost use Rattle.versioned_kv.specs.inner.Chains.{AreChains};
+ghost use Rattle.versioned_kv.specs.inner.Edits.{AreUpto, Extends};
 ghost use Rattle.versioned_kv.specs.Touched.{touched, RowsStay};
-ghost use Rattle.versioned_kv.specs.Queued.{Notes, AreNoted};
+ghost use Rattle.versioned_kv.specs.inner.Queued.{Notes, AreNoted};
 
 use crate::Steps;
 use crate::chain::Row;

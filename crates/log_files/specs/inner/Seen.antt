@@ -2,7 +2,7 @@
 use Rattle.std.specs.Prelude.{List, map, Option, Some, None}
 use Rattle.log_files.specs.declared.batched as declared
 use Rattle.log_files.specs.declared.record as rows
-use Rattle.log_files.specs.Joined.{joined_from}
+use Rattle.log_files.specs.inner.Joined.{joined_from}
 use Rattle.log_files.specs.Reading.{OpenBatch, Record, SoFar}
 
 abbrev pub record_from : rows.Record.Record → Record

@@ -3,10 +3,12 @@ ghost use Rattle.fb_bytes.specs.Bytes.{Bytes, is_same};
 ghost use Rattle.fb_bytes.specs.Keys.{holds};
 ghost use Rattle.mutations.specs.Effects.{range_of};
 ghost use Rattle.versioned_kv.specs.declared.chain.Chain.{Chain};
-ghost use Rattle.versioned_kv.specs.Chains.{AreChains, AreRising, value_at};
-ghost use Rattle.versioned_kv.specs.Edits.{AreRowsUpto, AreUpto, put_row, put_at, without_rows, is_chain_of, is_row_of, clear_chain, with_rows, changed_at, all_cleared, IsClearedUpto};
+ghost use Rattle.versioned_kv.specs.Chains.{value_at};
+ghost use Rattle.versioned_kv.specs.inner.Chains.{AreChains, AreRising};
+ghost use Rattle.versioned_kv.specs.Edits.{without_rows, with_rows};
+ghost use Rattle.versioned_kv.specs.inner.Edits.{AreRowsUpto, AreUpto, put_row, put_at, is_chain_of, is_row_of, clear_chain, changed_at, all_cleared, IsClearedUpto};
 ghost use Rattle.versioned_kv.specs.Forgotten.{rows_fallen, forgotten};
-ghost use Rattle.versioned_kv.specs.Queued.{Notes, AreNoted};
+ghost use Rattle.versioned_kv.specs.inner.Queued.{Notes, AreNoted};
 
 use super::Table;
 use crate::Steps;

@@ -1,6 +1,6 @@
 ghost use Rattle.std.specs.Borrow.{sem};
 ghost use Rattle.std.specs.List.{insert, remove};
-ghost use Rattle.versioned_kv.specs.Lends.{LendsEntry};
+ghost use Rattle.versioned_kv.specs.inner.Lends.{LendsEntry};
 ghost use Rattle.std.specs.Prelude.{◌≡◌, ◌+◌, ◌-◌, ◌<◌, ◌≤◌, List, [], ◌∷◌, ◌++◌, length, take, drop, Some, slice_get, slice_set, IfOk, OnOk, OnErr};
 
 use crate::Steps;

@@ -1,6 +1,7 @@
 ghost use Rattle.std.specs.Prelude.{◌≡◌, ℕ, ◌+◌, ◌<◌, ◌≤◌, ◌^◌, [], length, None, unwrap_or};
 ghost use Rattle.std.specs.Option.{option_copied};
-ghost use Rattle.versioned_kv.specs.Chains.{AreChains, AreRising, keys_below, rows_upto, rows_of, value_in, value_at};
+ghost use Rattle.versioned_kv.specs.Chains.{rows_upto, rows_of, value_in, value_at};
+ghost use Rattle.versioned_kv.specs.inner.Chains.{AreChains, AreRising, keys_below};
 
 use super::Table;
 use crate::Steps;

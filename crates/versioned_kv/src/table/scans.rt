@@ -1,6 +1,6 @@
 ghost use Rattle.std.specs.Prelude.{◌≡◌, ◌≤◌, [], ◌∷◌, ◌++◌, length, IfOk, OnOk};
-ghost use Rattle.versioned_kv.specs.Chains.{AreChains};
-ghost use Rattle.versioned_kv.specs.Pages.{IsPart};
+ghost use Rattle.versioned_kv.specs.inner.Chains.{AreChains};
+ghost use Rattle.versioned_kv.specs.inner.Pages.{IsPart};
 
 use super::Table;
 use crate::Steps;

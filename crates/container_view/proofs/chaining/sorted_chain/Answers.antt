@@ -1,6 +1,6 @@
 use Rattle.std.proofs.Common.{◌∙◌, ◌∷◌, [], ◌++◌, ap, sym, option_map, ℕ, ◌+◌, ◌<◌, ◌≤◌, None, arith}
 use Rattle.container_view.specs.Names.{chain_named}
-use Rattle.container_view.specs.Listed.{held, last_begun, logs_of}
+use Rattle.container_view.specs.inner.Listed.{held, last_begun, logs_of}
 use Rattle.container_view.specs.Folder.{LogFile}
 use Rattle.container_view.proofs.Names.{onward, onward_step}
 use Rattle.container_view.proofs.chaining.sorted_chain.Goals as goal

@@ -2,7 +2,7 @@ use Rattle.std.proofs.Common.{rules, None, Some, option_map, sym, ap, ◌∙◌,
 use Rattle.std.proofs.lemmas.Bool.{cond-true, cond-false, lt-ltb, le-ltb}
 use Rattle.std.proofs.lemmas.List.Sorted.{IsPartitionPoint-from_clause}
 use Rattle.container_view.specs.declared.logs.NamedLog.{NamedLog}
-use Rattle.container_view.specs.Listed.{log_of, held}
+use Rattle.container_view.specs.inner.Listed.{log_of, held}
 use Rattle.container_view.proofs.Begun.{parted, no_place, at_place, mapped_begun}
 use Rattle.container_view.proofs.logs.best_at.Goals as goal
 

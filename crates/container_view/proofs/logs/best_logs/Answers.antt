@@ -1,5 +1,5 @@
 use Rattle.std.proofs.Common.{◌∙◌, ap, None}
-use Rattle.container_view.specs.Listed.{logs_of, bests}
+use Rattle.container_view.specs.inner.Listed.{logs_of, bests}
 use Rattle.container_view.proofs.Bests.{if_ok, list_rises, list_held}
 use Rattle.container_view.proofs.logs.best_logs.Goals as goal
 

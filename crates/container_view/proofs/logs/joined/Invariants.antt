@@ -1,5 +1,5 @@
 use Rattle.std.proofs.Common.{◌≡◌, ◌++◌, drop}
-use Rattle.container_view.specs.Listed.{logs_of, runs_from, runs_of}
+use Rattle.container_view.specs.inner.Listed.{logs_of, runs_from, runs_of}
 use Rattle.container_view.proofs.logs.joined.Given as goal
 
 -- the runs so far and those of the rest are all

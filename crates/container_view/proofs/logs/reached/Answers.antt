@@ -1,7 +1,7 @@
 use Rattle.std.proofs.Common.{rules, refl, sym, ap, ◌∙◌, nat_le, arith}
 use Rattle.std.proofs.lemmas.List.Sorted.{IsPartitionPoint-from_clause}
 use Rattle.container_view.specs.declared.logs.Run.{Run}
-use Rattle.container_view.specs.Listed.{on_to}
+use Rattle.container_view.specs.inner.Listed.{on_to}
 use Rattle.container_view.proofs.Begun.{parted, no_place, at_place}
 use Rattle.container_view.proofs.logs.reached.Goals as goal
 

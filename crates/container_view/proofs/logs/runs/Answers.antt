@@ -1,5 +1,5 @@
 use Rattle.std.proofs.Common.{◌∙◌, ap, sym, subst}
-use Rattle.container_view.specs.Listed.{IsRisingBy, logs_of, runs_of, reach_in}
+use Rattle.container_view.specs.inner.Listed.{IsRisingBy, logs_of, runs_of, reach_in}
 use Rattle.container_view.proofs.Bests.{if_ok, rise_up}
 use Rattle.container_view.proofs.Runs.{runs_of_rise, runs_tell, reached_alike}
 use Rattle.container_view.specs.Names.{logs_named}

@@ -1,5 +1,5 @@
 use Rattle.std.proofs.Common.{◌≡◌, ◌++◌, drop, None, option_map}
-use Rattle.container_view.specs.Listed.{logs_of, bests}
+use Rattle.container_view.specs.inner.Listed.{logs_of, bests}
 use Rattle.container_view.proofs.logs.with_bests.Given as goal
 
 -- the best so far and those of the rest are all

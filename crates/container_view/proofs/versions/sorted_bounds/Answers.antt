@@ -2,8 +2,9 @@ use Rattle.std.proofs.Common.{◌∙◌, ap, sym, take}
 use Rattle.file_names.specs.Reading.{name_of}
 use Rattle.mutations.proofs.Lengths.{take_item}
 use Rattle.container_view.specs.Bounds.{wider, given_by, reached}
-use Rattle.container_view.specs.Names.{manifests_named, logs_named, folder_named, given_named}
-use Rattle.container_view.specs.Listed.{reach_in}
+use Rattle.container_view.specs.Names.{manifests_named, logs_named, folder_named}
+use Rattle.container_view.specs.inner.Names.{given_named}
+use Rattle.container_view.specs.inner.Listed.{reach_in}
 use Rattle.container_view.proofs.Names.{given_more, given_told}
 use Rattle.container_view.proofs.versions.sorted_bounds.Goals as goal
 

@@ -4,8 +4,9 @@ use Rattle.file_names.specs.Reading.{name_of}
 use Rattle.mutations.proofs.Lengths.{take_item}
 use Rattle.container_view.specs.Advertised.{gives, manifest_beats}
 use Rattle.container_view.specs.Bounds.{reached}
-use Rattle.container_view.specs.Names.{manifests_named, logs_named, folder_named, seen_manifest, better_manifest}
-use Rattle.container_view.specs.Listed.{reach_in}
+use Rattle.container_view.specs.Names.{manifests_named, logs_named, folder_named}
+use Rattle.container_view.specs.inner.Names.{seen_manifest, better_manifest}
+use Rattle.container_view.specs.inner.Listed.{reach_in}
 use Rattle.container_view.proofs.Names.{better_manifest_same, better_told}
 use Rattle.container_view.proofs.versions.sorted_manifest.Goals as goal
 

@@ -1,7 +1,8 @@
 use Rattle.std.proofs.Common.{◌≡◌, take, option_map}
 use Rattle.fb_bytes.specs.Options.{best_of}
 use Rattle.container_view.specs.Advertised.{gives, manifest_beats}
-use Rattle.container_view.specs.Names.{manifests_named, folder_named, seen_manifest}
+use Rattle.container_view.specs.Names.{manifests_named, folder_named}
+use Rattle.container_view.specs.inner.Names.{seen_manifest}
 use Rattle.container_view.proofs.versions.sorted_manifest.Given as goal
 
 -- the best manifest of the names so far

@@ -1,6 +1,6 @@
 use Rattle.std.proofs.Common.{◌+◌, ◌≤◌, length}
 use Rattle.log_files.specs.Reading.{records_at}
-use Rattle.log_files.specs.Seen.{records_from}
+use Rattle.log_files.specs.inner.Seen.{records_from}
 use Rattle.log_files.proofs.Records.{RowsSoFar}
 use Rattle.log_files.proofs.record.records_at.Given as goal
 

@@ -1,5 +1,5 @@
 use Rattle.std.proofs.Common.{◌≡◌, ◌++◌, drop}
-use Rattle.log_keys.specs.Table.{joined, joined_with}
+use Rattle.log_keys.specs.inner.Table.{joined, joined_with}
 use Rattle.log_keys.proofs.joining.all_joined.Given as goal
 
 abbrev pub invariant-loop-row : goal.invariant-loop-row

@@ -1,5 +1,5 @@
 use Rattle.std.proofs.Common.{sym, subst}
-use Rattle.log_keys.specs.Table.{Whole, IsRead}
+use Rattle.log_keys.specs.inner.Table.{Whole, IsRead}
 use Rattle.log_keys.proofs.joining.batches_of.Goals as goal
 
 pub read-requires : goal.read-requires

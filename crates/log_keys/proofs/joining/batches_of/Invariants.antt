@@ -1,5 +1,5 @@
 use Rattle.std.proofs.Common.{◌≡◌, ◌++◌, drop, map}
-use Rattle.log_keys.specs.Table.{batch_in}
+use Rattle.log_keys.specs.inner.Table.{batch_in}
 use Rattle.log_keys.proofs.joining.batches_of.Given as goal
 
 abbrev pub invariant-loop-whole : goal.invariant-loop-whole

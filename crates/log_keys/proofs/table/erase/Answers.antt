@@ -1,5 +1,5 @@
 use Rattle.std.proofs.Common.{sym, ◌∙◌, subst, arith}
-use Rattle.log_keys.specs.Table.{AreRising}
+use Rattle.log_keys.specs.inner.Table.{AreRising}
 use Rattle.log_keys.proofs.Places.{cut_here, uncut_here, older_out}
 use Rattle.log_keys.proofs.table.erase.Goals as goal
 

@@ -1,5 +1,5 @@
 use Rattle.std.proofs.Common.{◌+◌, List, length, sym, subst, arith}
-use Rattle.log_keys.specs.Parts.{Row, rows_from, pieces_of}
+use Rattle.log_keys.specs.inner.Parts.{Row, rows_from, pieces_of}
 use Rattle.log_keys.proofs.Cutting.{PartsSoFar, parts_begin, parts_more, next_few}
 use Rattle.log_keys.proofs.table.parts_of.Goals as goal
 

@@ -1,7 +1,8 @@
 use Rattle.std.proofs.Common.{Bool, rules}
 use Rattle.std.proofs.lemmas.List.Sorted.{IsPartitionPoint-from_clause}
-use Rattle.log_keys.specs.Keys.{first_at, is_key_below}
-use Rattle.log_keys.specs.Parts.{Row}
+use Rattle.log_keys.specs.Keys.{is_key_below}
+use Rattle.log_keys.specs.inner.Keys.{first_at}
+use Rattle.log_keys.specs.inner.Parts.{Row}
 use Rattle.log_keys.proofs.Places.{parted, place_is}
 use Rattle.log_keys.proofs.table.place_of.Goals as goal
 

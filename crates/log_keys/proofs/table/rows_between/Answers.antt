@@ -1,6 +1,6 @@
 use Rattle.std.proofs.Common.{ℕ, ◌-◌, take, drop, sym, ap, ◌∙◌}
-use Rattle.log_keys.specs.Keys.{first_at}
-use Rattle.log_keys.specs.Table.{keys_below}
+use Rattle.log_keys.specs.inner.Keys.{first_at}
+use Rattle.log_keys.specs.inner.Table.{keys_below}
 use Rattle.log_keys.proofs.Places.{cut, between_cut}
 use Rattle.log_keys.proofs.table.rows_between.Goals as goal
 

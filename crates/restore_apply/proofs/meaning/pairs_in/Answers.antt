@@ -1,8 +1,9 @@
 use Rattle.std.proofs.Common.{option_map, ap, ◌∙◌}
 use Rattle.fb_bytes.specs.Pairs.{value_of}
-use Rattle.restore_apply.specs.Loaded.{file_with, stored_at}
-use Rattle.restore_apply.specs.Pieces.{since, oldest, some_past, links_since}
-use Rattle.restore_apply.specs.Tables.{found}
+use Rattle.restore_apply.specs.Loaded.{file_with}
+use Rattle.restore_apply.specs.inner.Loaded.{stored_at}
+use Rattle.restore_apply.specs.inner.Pieces.{since, oldest, some_past, links_since}
+use Rattle.restore_apply.specs.inner.Tables.{found}
 use Rattle.restore_apply.proofs.Values.{if_ok, loaded_is}
 use Rattle.restore_apply.proofs.Waiting.{none_past}
 use Rattle.restore_apply.proofs.meaning.pairs_in.Goals as goal

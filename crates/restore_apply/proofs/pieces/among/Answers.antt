@@ -1,6 +1,6 @@
 use Rattle.std.proofs.Common.{refl, sym, subst}
 use Rattle.std.proofs.lemmas.List.{take_rest}
-use Rattle.restore_apply.specs.Pieces.{AreLine}
+use Rattle.restore_apply.specs.inner.Pieces.{AreLine}
 use Rattle.restore_apply.proofs.Among.{among_all, line_drop}
 use Rattle.restore_apply.proofs.pieces.among.Goals as goal
 

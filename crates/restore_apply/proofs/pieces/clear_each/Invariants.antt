@@ -1,8 +1,8 @@
 use Rattle.std.proofs.Common.{◌≡◌, drop}
 use Rattle.fb_bytes.specs.Bytes.{Bytes}
 use Rattle.mutations.specs.Effects.{range_of}
-use Rattle.restore_apply.specs.Pieces.{cleared}
-use Rattle.restore_apply.specs.Tables.{found}
+use Rattle.restore_apply.specs.inner.Pieces.{cleared}
+use Rattle.restore_apply.specs.inner.Tables.{found}
 use Rattle.restore_apply.proofs.pieces.clear_each.Given as goal
 
 abbrev pub invariant-loop-piece : goal.invariant-loop-piece

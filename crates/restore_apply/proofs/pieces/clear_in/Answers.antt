@@ -1,4 +1,4 @@
-use Rattle.restore_apply.specs.Tables.{found}
+use Rattle.restore_apply.specs.inner.Tables.{found}
 use Rattle.restore_apply.proofs.Among.{cleared_in, on_ok}
 use Rattle.restore_apply.proofs.pieces.clear_in.Goals as goal
 

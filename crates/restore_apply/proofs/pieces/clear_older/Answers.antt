@@ -1,7 +1,7 @@
 use Rattle.std.proofs.Common.{◌∙◌}
 use Rattle.fb_bytes.specs.Keys.{holds}
 use Rattle.mutations.specs.Effects.{range_of}
-use Rattle.restore_apply.specs.Tables.{found}
+use Rattle.restore_apply.specs.inner.Tables.{found}
 use Rattle.restore_apply.proofs.Among.{told_clear, on_ok}
 use Rattle.restore_apply.proofs.pieces.clear_older.Goals as goal
 

@@ -1,6 +1,6 @@
 use Rattle.std.proofs.Common.{ap, arith}
 use Rattle.std.proofs.Math.ListN.{drop_of_length-le}
-use Rattle.restore_apply.specs.Pieces.{oldest}
+use Rattle.restore_apply.specs.inner.Pieces.{oldest}
 use Rattle.restore_apply.proofs.Waiting.{oldest_small}
 use Rattle.restore_apply.proofs.pieces.oldest.Goals as goal
 

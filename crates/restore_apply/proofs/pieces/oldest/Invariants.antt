@@ -1,5 +1,5 @@
 use Rattle.std.proofs.Common.{◌≡◌, ◌<◌, ◌^◌, min, drop}
-use Rattle.restore_apply.specs.Pieces.{oldest}
+use Rattle.restore_apply.specs.inner.Pieces.{oldest}
 use Rattle.restore_apply.proofs.pieces.oldest.Given as goal
 
 abbrev pub invariant-loop-piece : goal.invariant-loop-piece

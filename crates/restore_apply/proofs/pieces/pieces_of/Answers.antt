@@ -2,7 +2,7 @@ use Rattle.std.proofs.Common.{◌<◌, length, sym, ap, ◌∙◌, subst, rules,
 use Rattle.std.specs.List.{AllByRecursion}
 use Rattle.restore_apply.specs.Loaded.{LoadedFile}
 use Rattle.restore_apply.specs.Overlaps.{At}
-use Rattle.restore_apply.specs.Pieces.{pieces_at}
+use Rattle.restore_apply.specs.inner.Pieces.{pieces_at}
 use Rattle.restore_apply.proofs.Lines.{pieces_are, places_within, piece_next, pieces_end}
 use Rattle.restore_apply.proofs.pieces.pieces_of.Goals as goal
 

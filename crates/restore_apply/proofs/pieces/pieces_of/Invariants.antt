@@ -1,6 +1,6 @@
 use Rattle.std.proofs.Common.{◌≡◌, ◌<◌, ◌++◌, length}
 use Rattle.std.specs.List.{AllByRecursion}
-use Rattle.restore_apply.specs.Pieces.{pieces_at}
+use Rattle.restore_apply.specs.inner.Pieces.{pieces_at}
 use Rattle.restore_apply.proofs.pieces.pieces_of.Given as goal
 
 abbrev pub invariant-loop-at : goal.invariant-loop-at

@@ -3,8 +3,8 @@ use Rattle.fb_bytes.specs.Bytes.{Bytes}
 use Rattle.atomic_ops.specs.Operation.{operation}
 use Rattle.mutations.specs.declared.mutation.Mutation.{Mutation}
 use Rattle.mutations.specs.Effects.{effect}
-use Rattle.restore_apply.specs.Pieces.{since, is_older}
-use Rattle.restore_apply.specs.Tables.{found, Leaves}
+use Rattle.restore_apply.specs.inner.Pieces.{since, is_older}
+use Rattle.restore_apply.specs.inner.Tables.{found, Leaves}
 use Rattle.restore_apply.proofs.Among.{on_ok}
 use Rattle.restore_apply.proofs.Batches.{made_at, unmade_at}
 use Rattle.restore_apply.proofs.replay.make.Goals as goal

@@ -1,7 +1,7 @@
 use Rattle.std.proofs.Common.{◌≡◌, drop}
 use Rattle.fb_bytes.specs.Bytes.{Bytes}
-use Rattle.restore_apply.specs.Pieces.{since, is_older, effects_if}
-use Rattle.restore_apply.specs.Tables.{found}
+use Rattle.restore_apply.specs.inner.Pieces.{since, is_older, effects_if}
+use Rattle.restore_apply.specs.inner.Tables.{found}
 use Rattle.restore_apply.proofs.replay.make_all.Given as goal
 
 abbrev pub invariant-loop-mutation : goal.invariant-loop-mutation

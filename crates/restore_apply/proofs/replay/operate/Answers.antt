@@ -1,6 +1,6 @@
 use Rattle.std.proofs.Common.{◌∙◌}
 use Rattle.atomic_ops.specs.Operation.{operation}
-use Rattle.restore_apply.specs.Tables.{found}
+use Rattle.restore_apply.specs.inner.Tables.{found}
 use Rattle.restore_apply.proofs.Among.{on_ok}
 use Rattle.restore_apply.proofs.Batches.{left_at}
 use Rattle.restore_apply.proofs.replay.operate.Goals as goal

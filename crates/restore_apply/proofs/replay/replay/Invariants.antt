@@ -1,7 +1,7 @@
 use Rattle.std.proofs.Common.{◌≡◌, drop}
 use Rattle.fb_bytes.specs.Bytes.{Bytes}
-use Rattle.restore_apply.specs.Pieces.{since, links_since}
-use Rattle.restore_apply.specs.Tables.{found}
+use Rattle.restore_apply.specs.inner.Pieces.{since, links_since}
+use Rattle.restore_apply.specs.inner.Tables.{found}
 use Rattle.restore_apply.proofs.replay.replay.Given as goal
 
 abbrev pub invariant-loop-link : goal.invariant-loop-link

@@ -1,7 +1,7 @@
 use Rattle.std.proofs.Common.{cond, ap, ◌∙◌}
 use Rattle.mutations.specs.Effects.{effects}
-use Rattle.restore_apply.specs.Pieces.{since, is_older}
-use Rattle.restore_apply.specs.Tables.{found}
+use Rattle.restore_apply.specs.inner.Pieces.{since, is_older}
+use Rattle.restore_apply.specs.inner.Tables.{found}
 use Rattle.restore_apply.proofs.Among.{on_ok}
 use Rattle.restore_apply.proofs.Batches.{effects_if_is, due_is}
 use Rattle.restore_apply.proofs.replay.replay_batch.Goals as goal

@@ -1,7 +1,7 @@
 use Rattle.std.proofs.Common.{Some, cond, ap, ◌∙◌}
 use Rattle.fb_bytes.specs.Bytes.{Bytes, is_same}
-use Rattle.restore_apply.specs.Pieces.{since, is_older}
-use Rattle.restore_apply.specs.Tables.{found}
+use Rattle.restore_apply.specs.inner.Pieces.{since, is_older}
+use Rattle.restore_apply.specs.inner.Tables.{found}
 use Rattle.restore_apply.proofs.Among.{on_ok}
 use Rattle.restore_apply.proofs.Batches.{made_at, unmade_at}
 use Rattle.restore_apply.proofs.replay.set.Goals as goal

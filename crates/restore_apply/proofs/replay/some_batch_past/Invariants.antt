@@ -1,5 +1,5 @@
 use Rattle.std.proofs.Common.{◌≡◌, drop}
-use Rattle.restore_apply.specs.Pieces.{some_batch_past}
+use Rattle.restore_apply.specs.inner.Pieces.{some_batch_past}
 use Rattle.restore_apply.proofs.replay.some_batch_past.Given as goal
 
 abbrev pub invariant-loop-batch : goal.invariant-loop-batch

@@ -1,5 +1,5 @@
 use Rattle.std.proofs.Common.{◌≡◌, ◌++◌, drop}
-use Rattle.restore_apply.specs.Stored.{kept}
+use Rattle.restore_apply.specs.inner.Stored.{kept}
 use Rattle.restore_apply.proofs.stored.add.Given as goal
 
 abbrev pub invariant-loop-pair : goal.invariant-loop-pair

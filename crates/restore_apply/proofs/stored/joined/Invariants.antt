@@ -1,5 +1,5 @@
 use Rattle.std.proofs.Common.{◌≡◌, ◌++◌, drop}
-use Rattle.restore_apply.specs.Stored.{stored, EachIsRising}
+use Rattle.restore_apply.specs.inner.Stored.{stored, EachIsRising}
 use Rattle.restore_apply.proofs.stored.joined.Given as goal
 
 abbrev pub invariant-loop-at : goal.invariant-loop-at

@@ -2,7 +2,7 @@ use Rattle.std.proofs.Common.{◌≡◌, None, cond, length}
 use Rattle.fb_bytes.specs.Bytes.{Bytes}
 use Rattle.fb_bytes.specs.Keys.{holds}
 use Rattle.mutations.specs.Effects.{range_of}
-use Rattle.restore_apply.specs.Tables.{found}
+use Rattle.restore_apply.specs.inner.Tables.{found}
 use Rattle.restore_apply.proofs.table.clear.Given as goal
 
 abbrev pub invariant-loop-key : goal.invariant-loop-key

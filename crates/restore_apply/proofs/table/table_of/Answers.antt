@@ -5,7 +5,7 @@ use Rattle.std.specs.Cmp.Lexicographic.{slice_cmp}
 use Rattle.std.specs.BTreeMap.{IsFromIterResult}
 use Rattle.fb_bytes.specs.Bytes.{Bytes}
 use Rattle.fb_bytes.specs.Pairs.{value_of, AreRising}
-use Rattle.restore_apply.specs.Tables.{Table}
+use Rattle.restore_apply.specs.inner.Tables.{Table}
 use Rattle.restore_apply.proofs.Loading.{loaded_value}
 use Rattle.restore_apply.proofs.table.table_of.Goals as goal
 

@@ -1,6 +1,6 @@
 use Rattle.std.proofs.Common.{Option, None, cond, refl, sym, subst}
 use Rattle.fb_bytes.specs.Bytes.{Bytes, is_same}
-use Rattle.restore_apply.specs.Tables.{Leaves}
+use Rattle.restore_apply.specs.inner.Tables.{Leaves}
 use Rattle.restore_apply.proofs.Tables.{written_leaves}
 use Rattle.restore_apply.proofs.table.write.Goals as goal
 

@@ -1,7 +1,7 @@
 use Rattle.std.proofs.Common.{◌≡◌, ◌+◌, subst, sym, ap, ◌∙◌, refl, Some, None}
 use Rattle.std.specs.Option.{option_map}
 use Rattle.task_bucket.specs.Claims.{lease_of, chosen}
-use Rattle.task_bucket.specs.Held.{AreRising, slot_in, lists_in, is_idle, leased_if}
+use Rattle.task_bucket.specs.inner.Held.{AreRising, slot_in, lists_in, is_idle, leased_if}
 use Rattle.task_bucket.proofs.Views.{rising_map}
 use Rattle.task_bucket.proofs.Claiming.{gone_by, picked_some, none_claimed, some_claimed}
 use Rattle.task_bucket.proofs.changes.claim_in.Goals as goal

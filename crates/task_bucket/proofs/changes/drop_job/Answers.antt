@@ -1,5 +1,5 @@
 use Rattle.std.proofs.Common.{not, eqb, subst, sym, ap, ◌∙◌}
-use Rattle.task_bucket.specs.Held.{AreRising, lists_in}
+use Rattle.task_bucket.specs.inner.Held.{AreRising, lists_in}
 use Rattle.task_bucket.proofs.Views.{rising_filter, lists_without_job}
 use Rattle.task_bucket.proofs.changes.drop_job.Goals as goal
 

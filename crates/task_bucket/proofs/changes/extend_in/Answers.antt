@@ -1,5 +1,5 @@
 use Rattle.std.proofs.Common.{arith, length, subst, sym, ap}
-use Rattle.task_bucket.specs.Held.{AreRising}
+use Rattle.task_bucket.specs.inner.Held.{AreRising}
 use Rattle.task_bucket.proofs.Claiming.{whole}
 use Rattle.task_bucket.proofs.changes.extend_in.Goals as goal
 

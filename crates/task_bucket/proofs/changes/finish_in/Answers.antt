@@ -1,5 +1,5 @@
 use Rattle.std.proofs.Common.{not, subst, sym, ap, ◌∙◌}
-use Rattle.task_bucket.specs.Held.{AreRising, held_is, lists_in}
+use Rattle.task_bucket.specs.inner.Held.{AreRising, held_is, lists_in}
 use Rattle.task_bucket.proofs.Views.{rising_filter, lists_finished}
 use Rattle.task_bucket.proofs.changes.finish_in.Goals as goal
 

@@ -1,6 +1,6 @@
 use Rattle.std.proofs.Common.{◌≡◌, arith, subst, sym, ap, ◌∙◌}
 use Rattle.std.specs.List.{insert}
-use Rattle.task_bucket.specs.Held.{AreRising, lists_in, place_for, put_held}
+use Rattle.task_bucket.specs.inner.Held.{AreRising, lists_in, place_for, put_held}
 use Rattle.task_bucket.proofs.Claiming.{insert_put, rising_put, lists_put}
 use Rattle.task_bucket.proofs.changes.put.Goals as goal
 

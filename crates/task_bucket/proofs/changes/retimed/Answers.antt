@@ -1,7 +1,7 @@
 use Rattle.std.proofs.Common.{◌≡◌, Some, subst, sym, ap, ◌∙◌, refl}
 use Rattle.task_bucket.specs.declared.lease.LeaseFault.TheVariants.{NoMemory}
 use Rattle.std.proofs.lemmas.Result.{err_from_is_err_and}
-use Rattle.task_bucket.specs.Held.{AreRising, lists_in, retimed_held}
+use Rattle.task_bucket.specs.inner.Held.{AreRising, lists_in, retimed_held}
 use Rattle.task_bucket.proofs.Views.{rising_map, lists_retimed, extended_found, found_yes, found_no}
 use Rattle.task_bucket.proofs.changes.retimed.Goals as goal
 

@@ -1,6 +1,6 @@
 use Rattle.std.proofs.Common.{◌≡◌, drop}
 use Rattle.task_bucket.specs.Lists.{least_until}
-use Rattle.task_bucket.specs.Held.{leases_in, least_of}
+use Rattle.task_bucket.specs.inner.Held.{leases_in, least_of}
 use Rattle.task_bucket.proofs.held.earliest.Given as goal
 
 abbrev pub invariant-loop-one : goal.invariant-loop-one

@@ -1,5 +1,5 @@
 use Rattle.std.proofs.Common.{arith}
-use Rattle.task_bucket.specs.Held.{leased_if}
+use Rattle.task_bucket.specs.inner.Held.{leased_if}
 use Rattle.task_bucket.proofs.Finding.{changed_there, changed_none, leases_other}
 use Rattle.task_bucket.proofs.held.lease_out.Goals as goal
 

@@ -1,6 +1,6 @@
 use Rattle.std.proofs.Common.{◌∙◌, ap, sym}
 use Rattle.std.specs.Prelude.{option_copied}
-use Rattle.task_bucket.specs.Held.{place_at}
+use Rattle.task_bucket.specs.inner.Held.{place_at}
 use Rattle.task_bucket.proofs.Walks.{walk_stops, walk_goes_on, walk_ends}
 use Rattle.task_bucket.proofs.held.picked.Goals as goal
 

@@ -1,5 +1,5 @@
 use Rattle.std.proofs.Common.{arith}
-use Rattle.task_bucket.specs.Held.{retimed_held}
+use Rattle.task_bucket.specs.inner.Held.{retimed_held}
 use Rattle.task_bucket.proofs.Finding.{changed_there, changed_none, retimes_other}
 use Rattle.task_bucket.proofs.held.retime.Goals as goal
 

@@ -1,5 +1,5 @@
 use Rattle.std.proofs.Common.{◌∙◌}
-use Rattle.task_bucket.specs.Held.{woken}
+use Rattle.task_bucket.specs.inner.Held.{woken}
 use Rattle.fb_bytes.proofs.Mapped.{mapped-step, mapped-all}
 use Rattle.task_bucket.proofs.held.wake.Goals as goal
 

@@ -1,5 +1,5 @@
 use Rattle.std.proofs.Common.{drop, subst}
-use Rattle.task_futures.specs.Changes.{AreSpared, IsNextPlace}
+use Rattle.task_futures.specs.inner.Changes.{AreSpared, IsNextPlace}
 use Rattle.task_futures.proofs.Nearing.{due_on, due_all}
 use Rattle.task_futures.proofs.due.due_in.Goals as goal
 

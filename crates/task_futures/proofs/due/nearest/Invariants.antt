@@ -1,5 +1,5 @@
 use Rattle.std.proofs.Common.{◌≡◌, drop}
-use Rattle.task_futures.specs.Changes.{nearest, nearest_onto}
+use Rattle.task_futures.specs.inner.Changes.{nearest, nearest_onto}
 use Rattle.task_futures.proofs.due.nearest.Given as goal
 
 abbrev pub invariant-loop-part : goal.invariant-loop-part

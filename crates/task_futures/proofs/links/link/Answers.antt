@@ -1,6 +1,6 @@
 use Rattle.std.proofs.Common.{◌≡◌, Bool, get_or, ◌∙◌, arith}
 use Rattle.task_futures.specs.Futures.{is_open}
-use Rattle.task_futures.specs.Changes.{is_open_one}
+use Rattle.task_futures.specs.inner.Changes.{is_open_one}
 use Rattle.task_futures.proofs.Joining.{link_there, link_none, none_open, open_there}
 use Rattle.task_futures.proofs.Linking.{ok_then, answer_then}
 use Rattle.task_futures.proofs.links.link.Goals as goal

@@ -1,5 +1,5 @@
 use Rattle.std.proofs.Common.{sym, subst, take, refl}
-use Rattle.task_futures.specs.Futures.{cleared_by}
+use Rattle.task_futures.specs.inner.Futures.{cleared_by}
 use Rattle.task_futures.specs.Laws.{AreRising}
 use Rattle.task_futures.proofs.Finding.{rising_map}
 use Rattle.task_futures.proofs.Falling.{cleared-nothing, clears_on}

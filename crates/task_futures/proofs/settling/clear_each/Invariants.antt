@@ -1,5 +1,5 @@
 use Rattle.std.proofs.Common.{◌≡◌, map, take}
-use Rattle.task_futures.specs.Futures.{cleared_by}
+use Rattle.task_futures.specs.inner.Futures.{cleared_by}
 use Rattle.task_futures.proofs.settling.clear_each.Given as goal
 
 abbrev pub invariant-loop-part : goal.invariant-loop-part

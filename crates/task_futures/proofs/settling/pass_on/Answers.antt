@@ -1,8 +1,9 @@
 use Rattle.std.proofs.Common.{◌≡◌, ◌+◌, ◌-◌, sym, ap, ◌∙◌, false, get_or, set, length, map}
 use borrow.Rule.Slice.PartMut.{mid_of}
 use Rattle.std.proofs.Math.ListN.{length-set}
-use Rattle.task_futures.specs.Futures.{is_some_block, cleared_by}
-use Rattle.task_futures.specs.Changes.{emptied}
+use Rattle.task_futures.specs.Futures.{is_some_block}
+use Rattle.task_futures.specs.inner.Futures.{cleared_by}
+use Rattle.task_futures.specs.inner.Changes.{emptied}
 use Rattle.task_futures.proofs.Finding.{rising_behind}
 use Rattle.task_futures.proofs.Falling.{passes}
 use Rattle.task_futures.proofs.Linking.{same_item}

@@ -1,6 +1,6 @@
 use Rattle.std.proofs.Common.{rules}
 use Rattle.std.proofs.lemmas.List.Sorted.{IsPartitionPoint-from_clause}
-use Rattle.task_futures.specs.Changes.{is_lesser}
+use Rattle.task_futures.specs.inner.Changes.{is_lesser}
 use Rattle.task_futures.proofs.Finding.{halved, parted}
 use Rattle.task_futures.proofs.settling.place_of.Goals as goal
 

@@ -1,7 +1,7 @@
 use Rattle.std.proofs.Common.{◌≡◌, suc, refl, ◌+◌, ◌-◌, ◌/◌, true, false, length, Some, take, sym, subst, arith}
 use Rattle.std.specs.List.{slice_get}
 use Rattle.fb_bytes.specs.Bytes.{is_below}
-use Rattle.versioned_kv.specs.Chunks.{joined, AreKeysBelow, BelongsTo}
+use Rattle.versioned_kv.specs.inner.Chunks.{joined, AreKeysBelow, BelongsTo}
 use Rattle.versioned_kv.proofs.Search.{Halves, halved}
 use Rattle.versioned_kv.proofs.Places.{read_at}
 use Rattle.versioned_kv.proofs.Joined.{below_upto, past_from, past_later}

@@ -1,5 +1,5 @@
 use Rattle.std.proofs.Common.{◌-◌, ◌≤◌, length, take, drop}
-use Rattle.versioned_kv.specs.Chunks.{joined, AreKeysBelow, AreKeysPast}
+use Rattle.versioned_kv.specs.inner.Chunks.{joined, AreKeysBelow, AreKeysPast}
 use Rattle.versioned_kv.proofs.Search.{Halves}
 use Rattle.versioned_kv.proofs.chunks.chunk_of.Given as goal
 

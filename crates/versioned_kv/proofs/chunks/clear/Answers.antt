@@ -1,7 +1,7 @@
 use Rattle.std.proofs.Common.{◌≡◌, ◌<◌, length, refl, sym, ap, subst, rules, arith}
 use Rattle.mutations.specs.Effects.{range_of}
-use Rattle.versioned_kv.specs.Chunks.{joined, AreFilled, BelongsTo}
-use Rattle.versioned_kv.specs.Edits.{all_cleared}
+use Rattle.versioned_kv.specs.inner.Chunks.{joined, AreFilled, BelongsTo}
+use Rattle.versioned_kv.specs.inner.Edits.{all_cleared}
 use Rattle.versioned_kv.proofs.Places.{some_at}
 use Rattle.versioned_kv.proofs.Joined.{chains_at, upto_at}
 use Rattle.versioned_kv.proofs.Everywhere.{here_yet, next_done, within_now, first_cleared, last_cleared, part_cleared, part_filled, mapped_filled, all_part}

@@ -1,9 +1,9 @@
 use Rattle.std.proofs.Common.{◌≡◌}
 use Rattle.mutations.specs.Effects.{range_of}
 use Rattle.fb_bytes.proofs.Mapped.{mapped}
-use Rattle.versioned_kv.specs.Chunks.{joined}
-use Rattle.versioned_kv.specs.Edits.{all_cleared}
-use Rattle.versioned_kv.specs.Queued.{Notes, AreNoted}
+use Rattle.versioned_kv.specs.inner.Chunks.{joined}
+use Rattle.versioned_kv.specs.inner.Edits.{all_cleared}
+use Rattle.versioned_kv.specs.inner.Queued.{Notes, AreNoted}
 use Rattle.versioned_kv.proofs.chunks.clear.Given as goal
 
 abbrev pub invariant-loop-place : goal.invariant-loop-place

@@ -1,5 +1,5 @@
 use Rattle.std.proofs.Common.{◌≡◌, ◌-◌, ◌^◌, min, length, take}
-use Rattle.versioned_kv.specs.Chunks.{joined}
+use Rattle.versioned_kv.specs.inner.Chunks.{joined}
 use Rattle.versioned_kv.proofs.chunks.count.Given as goal
 
 abbrev pub invariant-loop-chunk : goal.invariant-loop-chunk

@@ -1,6 +1,7 @@
 use Rattle.std.proofs.Common.{◌≡◌, ◌<◌, length, ap, ◌∙◌, subst, rules, arith}
-use Rattle.versioned_kv.specs.Chunks.{joined, BelongsTo}
-use Rattle.versioned_kv.specs.Edits.{without_rows, changed_at}
+use Rattle.versioned_kv.specs.inner.Chunks.{joined, BelongsTo}
+use Rattle.versioned_kv.specs.Edits.{without_rows}
+use Rattle.versioned_kv.specs.inner.Edits.{changed_at}
 use Rattle.versioned_kv.proofs.Places.{some_at}
 use Rattle.versioned_kv.proofs.Joined.{chains_at, upto_at}
 use Rattle.versioned_kv.proofs.Changes.{others_filled, change_belongs}

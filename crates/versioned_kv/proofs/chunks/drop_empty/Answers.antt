@@ -1,5 +1,5 @@
 use Rattle.std.proofs.Common.{◌≡◌, ◌<◌, length, refl, sym, ap, ◌∙◌, arith}
-use Rattle.versioned_kv.specs.Chunks.{joined}
+use Rattle.versioned_kv.specs.inner.Chunks.{joined}
 use Rattle.versioned_kv.proofs.Places.{read_at}
 use Rattle.versioned_kv.proofs.Changes.{joined_without, filled_all}
 use Rattle.versioned_kv.proofs.chunks.drop_empty.Goals as goal

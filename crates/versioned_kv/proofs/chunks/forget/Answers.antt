@@ -1,6 +1,6 @@
 use Rattle.std.proofs.Common.{◌≡◌, ◌<◌, length, ap, ◌∙◌, subst, rules, arith}
-use Rattle.versioned_kv.specs.Chunks.{joined, BelongsTo}
-use Rattle.versioned_kv.specs.Edits.{changed_at}
+use Rattle.versioned_kv.specs.inner.Chunks.{joined, BelongsTo}
+use Rattle.versioned_kv.specs.inner.Edits.{changed_at}
 use Rattle.versioned_kv.specs.Forgotten.{forgotten}
 use Rattle.versioned_kv.proofs.Places.{some_at}
 use Rattle.versioned_kv.proofs.Joined.{chains_at}

@@ -1,7 +1,7 @@
 use Rattle.std.proofs.Common.{List, refl, sym, ap, ◌∙◌, subst}
 use Rattle.std.specs.List.{slice_set}
 use Rattle.versioned_kv.specs.Chains.{Chain}
-use Rattle.versioned_kv.specs.Chunks.{joined, AreFilled}
+use Rattle.versioned_kv.specs.inner.Chunks.{joined, AreFilled}
 use Rattle.versioned_kv.proofs.Places.{on_ok, read_at, set_same}
 use Rattle.versioned_kv.proofs.Puts.{either}
 use Rattle.versioned_kv.proofs.Joined.{chains_at, upto_at, put_belongs, put_filled}

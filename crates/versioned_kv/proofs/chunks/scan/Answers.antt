@@ -2,7 +2,7 @@ use Rattle.std.proofs.Common.{◌<◌, List, None, length, refl, sym, ap, ◌∙
 use Rattle.fb_bytes.specs.Bytes.{Bytes}
 use Rattle.fb_bytes.specs.declared.Pair.{Pair}
 use Rattle.versioned_kv.specs.Chains.{value_at}
-use Rattle.versioned_kv.specs.Chunks.{joined, BelongsTo}
+use Rattle.versioned_kv.specs.inner.Chunks.{joined, BelongsTo}
 use Rattle.versioned_kv.specs.Pages.{IsPage}
 use Rattle.versioned_kv.proofs.Places.{read_at}
 use Rattle.versioned_kv.proofs.Joined.{chains_at}

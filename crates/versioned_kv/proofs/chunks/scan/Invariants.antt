@@ -1,6 +1,6 @@
 use Rattle.std.proofs.Common.{◌≡◌, ◌≤◌, length, take}
-use Rattle.versioned_kv.specs.Chunks.{joined}
-use Rattle.versioned_kv.specs.Pages.{pairs_in}
+use Rattle.versioned_kv.specs.inner.Chunks.{joined}
+use Rattle.versioned_kv.specs.inner.Pages.{pairs_in}
 use Rattle.versioned_kv.proofs.chunks.scan.Given as goal
 
 abbrev pub invariant-loop-place : goal.invariant-loop-place

@@ -1,7 +1,8 @@
 use Rattle.std.proofs.Common.{ap, ◌∙◌, subst}
 use Rattle.fb_bytes.specs.Bytes.{Bytes}
-use Rattle.versioned_kv.specs.Edits.{without_rows, changed_at}
-use Rattle.versioned_kv.specs.Queued.{AreTouchesBelow}
+use Rattle.versioned_kv.specs.Edits.{without_rows}
+use Rattle.versioned_kv.specs.inner.Edits.{changed_at}
+use Rattle.versioned_kv.specs.inner.Queued.{AreTouchesBelow}
 use Rattle.versioned_kv.proofs.Queues.{cut_key, cut_done}
 use Rattle.versioned_kv.proofs.store.cut_counted.Goals as goal
 

@@ -1,8 +1,8 @@
 use Rattle.std.proofs.Common.{ap, ◌∙◌, subst}
 use Rattle.fb_bytes.specs.Bytes.{Bytes}
-use Rattle.versioned_kv.specs.Edits.{changed_at}
+use Rattle.versioned_kv.specs.inner.Edits.{changed_at}
 use Rattle.versioned_kv.specs.Forgotten.{forgotten}
-use Rattle.versioned_kv.specs.Queued.{AreTouchesPast}
+use Rattle.versioned_kv.specs.inner.Queued.{AreTouchesPast}
 use Rattle.versioned_kv.proofs.Queues.{forget_key, forget_done}
 use Rattle.versioned_kv.proofs.store.forget_counted.Goals as goal
 

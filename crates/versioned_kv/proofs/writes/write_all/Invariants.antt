@@ -3,8 +3,8 @@ use Rattle.fb_bytes.specs.Bytes.{Bytes}
 use Rattle.mutations.specs.Effects.{effects}
 use Rattle.versioned_kv.specs.Chains.{rows_of, value_at}
 use Rattle.versioned_kv.specs.Touched.{touched}
-use Rattle.versioned_kv.specs.Queued.{Notes, AreNoted}
-use Rattle.versioned_kv.specs.Edits.{Extends}
+use Rattle.versioned_kv.specs.inner.Queued.{Notes, AreNoted}
+use Rattle.versioned_kv.specs.inner.Edits.{Extends}
 use Rattle.versioned_kv.proofs.writes.write_all.Given as goal
 
 abbrev pub invariant-loop-mutation : goal.invariant-loop-mutation

@@ -1,7 +1,7 @@
 use Rattle.std.proofs.Common.{List, [], ◌∷◌, refl, sym, subst}
 use Rattle.fb_bytes.specs.Bytes.{Bytes, is_same}
 use Rattle.versioned_kv.specs.Touched.{RowsStay}
-use Rattle.versioned_kv.specs.Queued.{Touch, touch, IsNoted}
+use Rattle.versioned_kv.specs.inner.Queued.{Touch, touch, IsNoted}
 use Rattle.versioned_kv.proofs.Queues.{noted_one, noted_write}
 use Rattle.versioned_kv.proofs.writes.write_row.Goals as goal
 

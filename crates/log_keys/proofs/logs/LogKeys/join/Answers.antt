@@ -3,8 +3,8 @@ use Rattle.std.specs.List.{All}
 use Rattle.mutations.specs.declared.batch.Batch.{Batch}
 use Rattle.mutations.specs.declared.batch.LogChunk.{LogChunk}
 use Rattle.log_keys.specs.Logs.{batches_between}
-use Rattle.log_keys.specs.Parts.{Row}
-use Rattle.log_keys.specs.Table.{Whole, IsRead, AreRising, joined, batch_in, rows_between}
+use Rattle.log_keys.specs.inner.Parts.{Row}
+use Rattle.log_keys.specs.inner.Table.{Whole, IsRead, AreRising, joined, batch_in, rows_between}
 use Rattle.log_keys.proofs.Groups.{between_read, between_is}
 use Rattle.log_keys.proofs.logs.LogKeys.join.Goals as goal
 

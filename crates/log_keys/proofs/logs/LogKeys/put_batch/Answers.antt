@@ -1,8 +1,8 @@
 use Rattle.std.proofs.Common.{◌≡◌, ℕ, List, ◌++◌, take, drop, sym, ap, ◌∙◌, subst}
-use Rattle.log_keys.specs.Keys.{first_at}
+use Rattle.log_keys.specs.inner.Keys.{first_at}
 use Rattle.log_keys.specs.Logs.{stands, with_one}
-use Rattle.log_keys.specs.Parts.{Row}
-use Rattle.log_keys.specs.Table.{AreRising, IsTable, log_in, keys_below}
+use Rattle.log_keys.specs.inner.Parts.{Row}
+use Rattle.log_keys.specs.inner.Table.{AreRising, IsTable, log_in, keys_below}
 use Rattle.log_keys.proofs.Puts.{put_rows, table_with, log_put}
 use Rattle.log_keys.proofs.logs.LogKeys.put_batch.Goals as goal
 

@@ -1,6 +1,6 @@
 use Rattle.std.proofs.Common.{ℕ, Bool, not, nat_eq, sym, ap, ◌∙◌, subst}
 use Rattle.log_keys.specs.Logs.{without}
-use Rattle.log_keys.specs.Table.{IsTable, log_in}
+use Rattle.log_keys.specs.inner.Table.{IsTable, log_in}
 use Rattle.log_keys.proofs.Groups.{table_filter, log_filter}
 use Rattle.log_keys.proofs.logs.LogKeys.retract.Goals as goal
 

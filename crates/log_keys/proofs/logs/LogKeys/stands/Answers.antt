@@ -1,6 +1,6 @@
 use Rattle.std.proofs.Common.{ap, sym, subst, ◌∙◌}
 use Rattle.log_keys.specs.Logs.{stands}
-use Rattle.log_keys.specs.Table.{AreRising, has_part}
+use Rattle.log_keys.specs.inner.Table.{AreRising, has_part}
 use Rattle.log_keys.proofs.Groups.{stands_is}
 use Rattle.log_keys.proofs.logs.LogKeys.stands.Goals as goal
 

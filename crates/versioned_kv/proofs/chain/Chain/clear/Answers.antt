@@ -1,5 +1,5 @@
 use Rattle.std.proofs.Common.{List, sym, subst}
-use Rattle.versioned_kv.specs.Queued.{Touch, IsNoted}
+use Rattle.versioned_kv.specs.inner.Queued.{Touch, IsNoted}
 use Rattle.versioned_kv.proofs.Queues.{key_noted, noted_one}
 use Rattle.versioned_kv.proofs.chain.Chain.clear.Goals as goal
 

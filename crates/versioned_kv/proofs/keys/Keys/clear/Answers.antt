@@ -1,9 +1,9 @@
 use Rattle.std.proofs.Common.{List, sym, ap, ◌∙◌, subst}
 use Rattle.mutations.specs.Effects.{range_of}
 use Rattle.versioned_kv.specs.Chains.{Chain}
-use Rattle.versioned_kv.specs.Chunks.{joined}
-use Rattle.versioned_kv.specs.Edits.{all_cleared, IsClearedUpto}
-use Rattle.versioned_kv.specs.Queued.{AreNoted}
+use Rattle.versioned_kv.specs.inner.Chunks.{joined}
+use Rattle.versioned_kv.specs.inner.Edits.{all_cleared, IsClearedUpto}
+use Rattle.versioned_kv.specs.inner.Queued.{AreNoted}
 use Rattle.versioned_kv.proofs.Places.{on_ok}
 use Rattle.versioned_kv.proofs.Everywhere.{part_extends, all_value}
 use Rattle.versioned_kv.proofs.Touches.{clear_stays}

@@ -1,7 +1,8 @@
 use Rattle.std.proofs.Common.{List, refl, sym, ap, ◌∙◌, subst}
-use Rattle.versioned_kv.specs.Chains.{Chain, AreChains, value_at}
-use Rattle.versioned_kv.specs.Chunks.{joined}
-use Rattle.versioned_kv.specs.Edits.{AreUpto, put_at, Extends}
+use Rattle.versioned_kv.specs.Chains.{Chain, value_at}
+use Rattle.versioned_kv.specs.inner.Chains.{AreChains}
+use Rattle.versioned_kv.specs.inner.Chunks.{joined}
+use Rattle.versioned_kv.specs.inner.Edits.{AreUpto, put_at, Extends}
 use Rattle.versioned_kv.proofs.Places.{on_ok}
 use Rattle.fb_bytes.specs.Bytes.{is_same}
 use Rattle.versioned_kv.specs.Touched.{RowsStay}

@@ -1,6 +1,6 @@
 use Rattle.std.proofs.Common.{◌≡◌, ◌<◌, List, length, Some, get_or, refl, ap, ◌∙◌, subst, arith}
 use Rattle.std.specs.List.{slice_get}
-use Rattle.versioned_kv.specs.Queued.{Touch}
+use Rattle.versioned_kv.specs.inner.Queued.{Touch}
 use Rattle.versioned_kv.proofs.Places.{read_at}
 use Rattle.versioned_kv.proofs.Queues.{oldest_past}
 use Rattle.versioned_kv.proofs.queue.Queue.pop_oldest.Goals as goal

@@ -2,7 +2,7 @@ use Rattle.std.proofs.Common.{◌≡◌, ℕ, List, sym, ap, ◌∙◌, subst, a
 use Rattle.mutations.specs.declared.mutation.Mutation.{Mutation}
 use Rattle.mutations.specs.Effects.{effects}
 use Rattle.versioned_kv.specs.Chains.{Chain, value_at}
-use Rattle.versioned_kv.specs.Queued.{IsWhole}
+use Rattle.versioned_kv.specs.inner.Queued.{IsWhole}
 use Rattle.versioned_kv.specs.Applied.{Contents, Holds, IsPast, with_entry}
 use Rattle.versioned_kv.specs.Touched.{touched, RowsStay, WritesAt}
 use Rattle.versioned_kv.proofs.Touches.{writes_at}

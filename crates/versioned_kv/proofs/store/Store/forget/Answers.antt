@@ -1,6 +1,6 @@
 use Rattle.std.proofs.Common.{List, sym, subst, arith}
 use Rattle.versioned_kv.specs.Chains.{Chain}
-use Rattle.versioned_kv.specs.Queued.{IsWhole}
+use Rattle.versioned_kv.specs.inner.Queued.{IsWhole}
 use Rattle.versioned_kv.specs.Applied.{Contents, Holds}
 use Rattle.versioned_kv.proofs.Forgets.{holds_kept}
 use Rattle.versioned_kv.proofs.Queues.{due_all}

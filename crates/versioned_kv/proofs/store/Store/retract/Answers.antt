@@ -3,8 +3,8 @@ use Rattle.versioned_kv.specs.Chains.{Chain}
 use Rattle.std.specs.List.{AllByRecursion}
 use Rattle.fb_bytes.specs.Options.{IsIn}
 use Rattle.versioned_kv.specs.Edits.{without}
-use Rattle.versioned_kv.specs.Sound.{AreVersions, AreOf}
-use Rattle.versioned_kv.specs.Queued.{Touch, IsWhole}
+use Rattle.versioned_kv.specs.inner.Sound.{AreVersions, AreOf}
+use Rattle.versioned_kv.specs.inner.Queued.{Touch, IsWhole}
 use Rattle.versioned_kv.specs.Applied.{Contents, Holds}
 use Rattle.versioned_kv.proofs.Cuts.{upto_last}
 use Rattle.versioned_kv.proofs.Holding.{snoc_same, holds_back}

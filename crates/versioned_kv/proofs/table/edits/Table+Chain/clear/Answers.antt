@@ -1,7 +1,7 @@
 use Rattle.std.proofs.Common.{◌≡◌, suc, ◌+◌, sym, ◌∙◌, subst, arith}
 use Rattle.mutations.specs.Effects.{range_of}
-use Rattle.versioned_kv.specs.Chains.{AreChains}
-use Rattle.versioned_kv.specs.Edits.{AreUpto, cleared_upto}
+use Rattle.versioned_kv.specs.inner.Chains.{AreChains}
+use Rattle.versioned_kv.specs.inner.Edits.{AreUpto, cleared_upto}
 use Rattle.versioned_kv.proofs.Clears.{clears_none, clear_within, clear_step, clear_extends}
 use Rattle.versioned_kv.proofs.Everywhere.{range_done}
 use Rattle.versioned_kv.proofs.Queues.{notes_none, notes_more}

@@ -1,7 +1,7 @@
 use Rattle.std.proofs.Common.{◌≡◌}
 use Rattle.mutations.specs.Effects.{range_of}
-use Rattle.versioned_kv.specs.Edits.{cleared_upto}
-use Rattle.versioned_kv.specs.Queued.{Notes, AreNoted}
+use Rattle.versioned_kv.specs.inner.Edits.{cleared_upto}
+use Rattle.versioned_kv.specs.inner.Queued.{Notes, AreNoted}
 use Rattle.versioned_kv.proofs.table.edits.Table+Chain.clear.Given as goal
 
 abbrev pub invariant-loop-place : goal.invariant-loop-place

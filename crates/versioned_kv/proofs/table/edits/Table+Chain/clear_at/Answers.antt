@@ -1,7 +1,7 @@
 use Rattle.std.proofs.Common.{◌≡◌, ap, ◌∙◌}
 use Rattle.std.specs.List.{slice_set}
 use Rattle.versioned_kv.specs.Chains.{Chain}
-use Rattle.versioned_kv.specs.Edits.{clear_chain}
+use Rattle.versioned_kv.specs.inner.Edits.{clear_chain}
 use Rattle.versioned_kv.proofs.Places.{on_ok, on_err, set_same}
 use Rattle.versioned_kv.proofs.Cuts.{chain_rows}
 use Rattle.versioned_kv.proofs.Queues.{set_noted}

@@ -1,6 +1,6 @@
 use Rattle.std.proofs.Common.{◌≡◌, ◌+◌, ◌-◌, ◌/◌, ◌≤◌, true, false, length, sym, subst, arith}
 use Rattle.fb_bytes.specs.Bytes.{is_below}
-use Rattle.versioned_kv.specs.Chains.{has_key_below, keys_below}
+use Rattle.versioned_kv.specs.inner.Chains.{has_key_below, keys_below}
 use Rattle.versioned_kv.proofs.Search.{Halves, front_upto, fails_past, key_within, halved}
 use Rattle.versioned_kv.proofs.table.looks.Table+Chain.place_of.Goals as goal
 

@@ -1,5 +1,5 @@
 use Rattle.std.proofs.Common.{◌-◌, ◌≤◌, length}
-use Rattle.versioned_kv.specs.Chains.{keys_below}
+use Rattle.versioned_kv.specs.inner.Chains.{keys_below}
 use Rattle.versioned_kv.proofs.Search.{Halves}
 use Rattle.versioned_kv.proofs.table.looks.Table+Chain.place_of.Given as goal
 

@@ -1,8 +1,8 @@
 use Rattle.std.proofs.Common.{◌≡◌, suc, ◌+◌, List, ◌++◌, length, Option, Some, None, inl, inr, is_some, rules, sym, ap, ◌∙◌, subst, arith}
 use Rattle.fb_bytes.specs.Bytes.{Bytes}
 use Rattle.fb_bytes.specs.declared.Pair.{Pair}
-use Rattle.versioned_kv.specs.Chains.{keys_below}
-use Rattle.versioned_kv.specs.Pages.{IsPart}
+use Rattle.versioned_kv.specs.inner.Chains.{keys_below}
+use Rattle.versioned_kv.specs.inner.Pages.{IsPart}
 use Rattle.versioned_kv.proofs.Forgets.{rising_at}
 use Rattle.versioned_kv.proofs.Scans.{pairs_upto, pairs_none, append_none, length_end, part_step, full_part, last_part}
 use Rattle.versioned_kv.proofs.table.scans.Table+Chain.scan.Goals as goal

@@ -1,23 +1,11 @@
 -- Which keys the versions touched: where a store looks when versions go.
-use Rattle.std.specs.Prelude.{
-  ◌≡◌,
-  ℕ,
-  ◌<◌,
-  ◌≤◌,
-  true,
-  List,
-  [],
-  ◌∷◌,
-  ◌++◌,
-  ◌⊎◌,
-  is_some,
-}
+use Rattle.std.specs.Prelude.{◌≡◌, ℕ, ◌<◌, ◌≤◌, true, List, [], ◌∷◌, ◌++◌, ◌⊎◌, is_some}
 use Rattle.std.specs.List.{AllByRecursion}
 use Rattle.fb_bytes.specs.Bytes.{Bytes}
 use Rattle.fb_bytes.specs.Options.{IsIn}
 use Rattle.versioned_kv.specs.Chains.{Row, Chain, rows_of}
 use Rattle.versioned_kv.specs.Forgotten.{forgotten}
-use Rattle.versioned_kv.specs.Sound.{IsSound}
+use Rattle.versioned_kv.specs.inner.Sound.{IsSound}
 pub use Rattle.versioned_kv.specs.declared.queue.Touch.{Touch}
 
 -- a version touched a key

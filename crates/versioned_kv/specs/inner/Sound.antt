@@ -2,7 +2,8 @@
 use Rattle.std.specs.Prelude.{ℕ, ◌<◌, List, [], ◌∷◌}
 use Rattle.std.specs.List.{AllByRecursion}
 use Rattle.fb_bytes.specs.Options.{IsIn}
-use Rattle.versioned_kv.specs.Chains.{Chain, AreChains}
+use Rattle.versioned_kv.specs.Chains.{Chain}
+use Rattle.versioned_kv.specs.inner.Chains.{AreChains}
 
 -- versions rise
 abbrev pub AreVersions : List ℕ → Type 0

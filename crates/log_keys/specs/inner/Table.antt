@@ -10,7 +10,7 @@ use Rattle.mutations.specs.declared.batch.Batch.{Batch}
 use Rattle.mutations.specs.Reading.{decoded}
 use Rattle.log_keys.specs.Keys.{Key, is_key_below}
 use Rattle.log_keys.specs.Logs.{Standing, is_between}
-use Rattle.log_keys.specs.Parts.{Row, rows_from, spelled}
+use Rattle.log_keys.specs.inner.Parts.{Row, rows_from, spelled}
 pub use Rattle.log_keys.specs.declared.whole.Whole.{Whole}
 
 -- ---- what the parts say

@@ -1,0 +1,4 @@
+-- Definitions that only private clauses cite.
+pub mod Listing
+pub mod Listed
+pub mod Names

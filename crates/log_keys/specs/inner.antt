@@ -1,0 +1,4 @@
+-- Definitions that only private clauses cite.
+pub mod Parts
+pub mod Table
+pub mod Keys
