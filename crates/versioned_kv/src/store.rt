@@ -76,7 +76,8 @@ impl Store {
         self.chains.count()
     }
 
-    /// How many versions left something at a key, of those that aren't forgotten.
+    /// How many rows a key has: one for each version that left a value there or took one away, as far as
+    /// it isn't forgotten.
     pub fn rows_of(&self, key: &[u8]) -> usize
         ensures { result ≡ length (rows_of self.now.chains key.now) }
     {
@@ -146,7 +147,8 @@ impl Store {
         }
     }
 
-    /// Forgets the versions before the oldest that is to be read. It takes no memory.
+    /// Forgets the versions before the oldest that is to be read. It takes no memory, and looks only at
+    /// keys that a version up to the oldest one touched since the last call.
     pub fn forget(&mut self, oldest: u64)
         ensures holds { (entries : List Batch) → Holds self.old entries → Holds self.new entries }
         ensures left { self.new
@@ -159,7 +161,7 @@ impl Store {
         forget(&mut self.chains, self.oldest, &mut self.queue);
     }
 
-    /// Takes the newest entry back. It takes no memory.
+    /// Takes the newest entry back. It takes no memory, and looks only at the keys that it touched.
     pub fn retract(&mut self)
         requires { IsRetractable self.old }
         ensures holds { (entries : List Batch) (entry : Batch)
