@@ -1,5 +1,5 @@
 -- Counts over several calls.
-use Rattle.std.proofs.Common.{◌≡◌, ℕ, ◌≤◌, arith}
+use Rattle.std.proofs.Common.{ℕ, ◌≤◌, arith}
 use Rattle.fb_outside.specs.Faults.{Counts}
 
 -- a count that never fell, over one call more

@@ -1,50 +1,36 @@
 -- A writer's loops over the parts of a batch and over the batches.
-use Rattle.std.proofs.Common.{◌≡◌, ℕ, zero, suc, ◌+◌, ◌<◌, ◌≤◌, leb, List, [], ◌∷◌, length, get_or, take, drop, refl, sym, ap, subst, ◌∙◌, arith}
-use Rattle.std.proofs.lemmas.Bool.{le-leb, lt-leb, cond-true, cond-false}
-use Rattle.std.proofs.lemmas.List.{drop_all, length-drop}
+use Rattle.std.proofs.Common.{◌≡◌, ℕ, zero, suc, ◌+◌, ◌<◌, ◌≤◌, List, [], ◌∷◌, length, get_or, take, drop, sym, ap, subst, ◌∙◌, arith}
+use Rattle.std.proofs.lemmas.List.{drop_all}
 use Rattle.fb_bytes.specs.Bytes.{Bytes}
 use Rattle.block_frame.specs.Frames.{Frames, no_frames, framed, text}
 use Rattle.mutations.specs.declared.Batch.{Batch}
 use Rattle.mutations.specs.Spelling.{HasSpelling}
-use Rattle.fb_bytes.proofs.Results.{fuel_is}
 use Rattle.log_files.specs.Reading.{format}
 use Rattle.log_files.specs.Grammar.{Row, row_key, row_text, rows_of}
-use Rattle.log_files.specs.Writing.{pieces_with, pieces_of, with_rows, with_batches, log_text, AreLogged}
+use Rattle.mutations.specs.Cutting.{pieces_of}
+use Rattle.mutations.proofs.Cutting.{pieces_short, pieces_long}
+use Rattle.log_files.specs.Writing.{with_rows, with_batches, log_text, AreLogged}
 
 abbrev pub row_at : ℕ → ℕ → Bytes → Row
 row_at version part piece = record { key = row_key version part; value = piece }
 
 -- the parts before were written, and the rest is still cut
-pub record PartsSoFar (size part : ℕ) (frames : Frames) (version number : ℕ) (rest : Bytes) (total : Frames) : Type 0 where
-  pub fuel : ℕ
-  pub enough : length rest < fuel
-  pub same : with_rows size frames (rows_of version number (pieces_with fuel part rest)) ≡ total
-
-pub parts_begin : (size part : ℕ) (frames : Frames) (version : ℕ) (bytes : Bytes) → PartsSoFar size part frames version 0 bytes (with_rows size frames (rows_of version 0 (pieces_of part bytes)))
-unfolding pieces_of
-parts_begin size part frames version bytes = record { fuel = length bytes + 1; enough = omega arith; same = refl }
+abbrev pub PartsSoFar : ℕ → ℕ → Frames → ℕ → ℕ → Bytes → Frames → Type 0
+PartsSoFar size part frames version number rest total = with_rows size frames (rows_of version number (pieces_of part rest)) ≡ total
 
 pub parts_more : (size part : ℕ) (frames new : Frames) (version number : ℕ) (rest after row again : Bytes) (total : Frames) → 0 < part → part < length rest → row ≡ row_text (row_at version number (take part rest)) → again ≡ [] → new ≡ framed size format frames row again → after ≡ drop part rest
     → PartsSoFar size part frames version number rest total → PartsSoFar size part new version (number + 1) after total
-parts_more size part frames new version number rest after row again total some long r a n d s =
-    let f = fuel_is (length rest) s.fuel s.enough in
+parts_more size part frames new version number rest after row again total some long r a n d so =
     let piece = take part rest in
-    let cut : pieces_with s.fuel part rest ≡ piece ∷ pieces_with f.0 part (drop part rest) = ap (λ (k : ℕ). pieces_with k part rest) f.1 ∙ cond-false (leb (length rest) part) (rest ∷ []) (piece ∷ pieces_with f.0 part (drop part rest)) (lt-leb (length rest) part long) in
     let new-is : new ≡ framed size format frames (row_text (row_at version number piece)) [] = n ∙ ap (λ (x : Bytes × Bytes). framed size format frames x.0 x.1) (ap (λ (x : Bytes). (x, again)) r ∙ ap (λ (x : Bytes). (row_text (row_at version number piece), x)) a) in
-    record {
-      fuel = f.0;
-      enough = omega (arith, ap length d, length-drop part rest, f.1, s.enough);
-      same = ap (λ (x : Bytes). with_rows size new (rows_of version (number + 1) (pieces_with f.0 part x))) d
-          ∙ ap (λ (x : Frames). with_rows size x (rows_of version (number + 1) (pieces_with f.0 part (drop part rest)))) new-is
-          ∙ sym (ap (λ (ps : List Bytes). with_rows size frames (rows_of version number ps)) cut) ∙ s.same;
-    }
+    ap (λ (x : Bytes). with_rows size new (rows_of version (number + 1) (pieces_of part x))) d
+    ∙ ap (λ (x : Frames). with_rows size x (rows_of version (number + 1) (pieces_of part (drop part rest)))) new-is
+    ∙ sym (ap (λ (ps : List Bytes). with_rows size frames (rows_of version number ps)) (pieces_long part rest some long)) ∙ so
 
 pub parts_end : (size part : ℕ) (frames new : Frames) (version number : ℕ) (rest row again : Bytes) (total : Frames) → length rest ≤ part → row ≡ row_text (row_at version number rest) → again ≡ [] → new ≡ framed size format frames row again → PartsSoFar size part frames version number rest total → new ≡ total
-parts_end size part frames new version number rest row again total short r a n s =
-    let f = fuel_is (length rest) s.fuel s.enough in
-    let cut : pieces_with s.fuel part rest ≡ rest ∷ [] = ap (λ (k : ℕ). pieces_with k part rest) f.1 ∙ cond-true (leb (length rest) part) (rest ∷ []) (take part rest ∷ pieces_with f.0 part (drop part rest)) (le-leb (length rest) part short) in
+parts_end size part frames new version number rest row again total short r a n so =
     n ∙ ap (λ (x : Bytes × Bytes). framed size format frames x.0 x.1) (ap (λ (x : Bytes). (x, again)) r ∙ ap (λ (x : Bytes). (row_text (row_at version number rest), x)) a)
-    ∙ sym (ap (λ (ps : List Bytes). with_rows size frames (rows_of version number ps)) cut) ∙ s.same
+    ∙ sym (ap (λ (ps : List Bytes). with_rows size frames (rows_of version number ps)) (pieces_short part rest short)) ∙ so
 
 -- ---- the batches
 

@@ -1,8 +1,8 @@
 -- What is written is in the grammar.
-use Rattle.std.proofs.Common.{◌≡◌, ℕ, zero, suc, ◌+◌, ◌-◌, ◌*◌, ◌^◌, ◌<◌, ◌≤◌, Bool, true, false, cond, leb, List, [], ◌∷◌, ◌++◌, length, take, drop, replicate, refl, sym, ap, subst, ◌∙◌, append_assoc, arith, rules, inl, inr}
+use Rattle.std.proofs.Common.{◌≡◌, ℕ, ◌+◌, ◌-◌, ◌^◌, ◌<◌, ◌≤◌, Bool, true, false, leb, List, [], ◌∷◌, ◌++◌, length, replicate, refl, sym, ap, subst, ◌∙◌, append_assoc, arith, rules, inl, inr}
 use Rattle.std.specs.List.{AllByRecursion}
 use Rattle.std.proofs.lemmas.Bool.{leb-true, leb-false}
-use Rattle.std.proofs.lemmas.List.{append-nil, length-append, length-replicate, length-take, length-drop, take-append-drop}
+use Rattle.std.proofs.lemmas.List.{append-nil, length-append, length-replicate}
 use Rattle.fb_bytes.specs.Bytes.{Bytes}
 use Rattle.fb_bytes.specs.Blocks.{is_block}
 use Rattle.block_frame.specs.Text.{header, string}
@@ -14,8 +14,10 @@ use Rattle.mutations.proofs.Lengths.{length-u32_bytes, length-u64_bytes}
 use Rattle.log_files.specs.Reading.{format}
 use Rattle.block_frame.proofs.Padding.{padding_is}
 use Rattle.block_frame.proofs.Frames.{framed_first, framed_fits, framed_begins, roomy}
-use Rattle.log_files.specs.Grammar.{Row, row_key, row_text, rows_text, RowFits, IsLogBlock, LogBlocks, NoBlock, NextBlock, rows_of, joined, Spell, LogFile}
-use Rattle.log_files.specs.Writing.{pieces_with, pieces_of, with_rows, with_batches, log_text, AreLogged, IsWritable}
+use Rattle.log_files.specs.Grammar.{Row, row_key, row_text, rows_text, RowFits, IsLogBlock, LogBlocks, NoBlock, NextBlock, rows_of, Spell, LogFile}
+use Rattle.mutations.specs.Cutting.{pieces_of}
+use Rattle.mutations.proofs.Cutting.{are_cut}
+use Rattle.log_files.specs.Writing.{with_rows, with_batches, log_text, AreLogged, IsWritable}
 use Rattle.log_files.specs.Laws.{WrittenIsLog, WrittenIsRead}
 use Rattle.log_files.proofs.Files.{log_is_read}
 
@@ -107,38 +109,6 @@ all_written size (row ∷ rows) h =
     let first : framed size format no_frames (row_text row) [] ≡ record { full = []; present = present_text (row ∷ []) } = framed_first size format (row_text row) [] ∙ ap (λ (x : Bytes). record { full = []; present = x }) (text_begun row) in
     record { rest = w.rest; parts = ap (λ (f : Frames). text (with_rows size f rows)) first ∙ w.parts; blocks = w.blocks }
 
--- ---- pieces
-
--- what pieces of bytes that aren't empty have
-pub record AreCut (part : ℕ) (bytes : Bytes) (pieces : List Bytes) : Type 0 where
-  pub some : 0 < length pieces
-  pub none_empty : AllByRecursion (λ piece. 0 < length piece) pieces
-  pub short : AllByRecursion (λ piece. length piece ≤ part) pieces
-  pub whole : joined pieces ≡ bytes
-  pub few : 64 * length pieces ≤ length bytes + 64
-
-cut_at : (fuel part : ℕ) (bytes : Bytes) (b : Bool) → leb (length bytes) part ≡ b → 64 ≤ part → 0 < length bytes → (part < length bytes → AreCut part (drop part bytes) (pieces_with fuel part (drop part bytes))) → AreCut part bytes (cond b (bytes ∷ []) (take part bytes ∷ pieces_with fuel part (drop part bytes)))
-cut_at fuel part bytes true e wide some more = record { some = omega arith; none_empty = (some, tt); short = (leb-true _ _ e, tt); whole = append-nil bytes; few = omega arith }
-cut_at fuel part bytes false e wide some more =
-    let long = leb-false _ _ e in
-    let m = more long in
-    let len = length-take part bytes in
-    record {
-      some = omega arith;
-      none_empty = (omega arith, m.none_empty);
-      short = (omega arith, m.short);
-      whole = ap (λ (x : Bytes). take part bytes ++ x) m.whole ∙ take-append-drop part bytes;
-      few = omega (arith, m.few, length-drop part bytes);
-    }
-
-pieces_cut : (fuel part : ℕ) (bytes : Bytes) → 64 ≤ part → 0 < length bytes → length bytes < fuel → AreCut part bytes (pieces_with fuel part bytes)
-pieces_cut zero part bytes wide some lt = absurd (omega arith)
-pieces_cut (suc fuel) part bytes wide some lt = cut_at fuel part bytes (leb (length bytes) part) refl wide some (λ long. pieces_cut fuel part (drop part bytes) wide (omega (arith, length-drop part bytes)) (omega (arith, length-drop part bytes)))
-
-are_cut : (part : ℕ) (bytes : Bytes) → 64 ≤ part → 0 < length bytes → AreCut part bytes (pieces_of part bytes)
-unfolding pieces_of
-are_cut part bytes wide some = pieces_cut (length bytes + 1) part bytes wide some (omega arith)
-
 -- ---- batches
 
 abbrev rows_in : ℕ → List Batch → List Row
@@ -175,16 +145,16 @@ all_fit : (size : ℕ) (batches : List Batch) → is_block size ≡ true → All
 all_fit size [] listed = tt
 all_fit size (batch ∷ batches) listed =
     let pieces = pieces_of (part_of size) (batch_spelling batch.muts) in
-    let c = are_cut (part_of size) (batch_spelling batch.muts) (wide_part size listed) (spelling_some batch) in
+    let c = are_cut (part_of size) (batch_spelling batch.muts) (omega (arith, wide_part size listed)) in
     all_both size (rows_of batch.version 0 pieces) (rows_in size batches) (rows_fit size batch.version 0 pieces (roomy size listed) c.short) (all_fit size batches listed)
 
 all_spelled : (size low end : ℕ) (batches : List Batch) → is_block size ≡ true → AreLogged low end batches → Spell low end batches (rows_in size batches)
 all_spelled size low end [] listed h = refl
 all_spelled size low end (batch ∷ batches) listed h =
     let pieces = pieces_of (part_of size) (batch_spelling batch.muts) in
-    let c = are_cut (part_of size) (batch_spelling batch.muts) (wide_part size listed) (spelling_some batch) in
-    let few : length pieces ≤ 2 ^ 32 = omega (arith, c.few, spelling_length batch, h.2.few) in
-    (pieces, rows_in size batches, refl, record { some = c.some; none_empty = c.none_empty; few = few; spelled = c.whole; has = h.2 }, h.0, h.1, all_spelled size (batch.version + 1) end batches listed h.3)
+    let c = are_cut (part_of size) (batch_spelling batch.muts) (omega (arith, wide_part size listed)) in
+    let few : length pieces ≤ 2 ^ 32 = omega (arith, c.few 64 (wide_part size listed), spelling_length batch, h.2.few) in
+    (pieces, rows_in size batches, refl, record { some = c.some; none_empty = c.none_empty (spelling_some batch); few = few; spelled = c.whole; has = h.2 }, h.0, h.1, all_spelled size (batch.version + 1) end batches listed h.3)
 
 pub written_file : (size begin end : ℕ) (batches : List Batch) → IsWritable size begin end batches → LogFile size begin end (log_text size batches) batches
 unfolding log_text

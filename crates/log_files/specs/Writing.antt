@@ -1,24 +1,14 @@
 -- The text that a writer gives.
-use Rattle.std.specs.Prelude.{◌≡◌, ℕ, zero, suc, ◌+◌, ◌<◌, ◌≤◌, true, List, [], ◌∷◌, length, take}
-use Rattle.std.specs.Prelude.{drop, nat_le, if◌then◌else◌}
+use Rattle.std.specs.Prelude.{◌≡◌, ℕ, ◌+◌, ◌<◌, ◌≤◌, true, List, [], ◌∷◌}
 use Rattle.fb_bytes.specs.Bytes.{Bytes}
 use Rattle.fb_bytes.specs.Blocks.{is_block}
 use Rattle.block_frame.specs.Profiles.{part_of}
 use Rattle.block_frame.specs.Frames.{Frames, no_frames, framed, text}
 use Rattle.mutations.specs.declared.Batch.{Batch}
 use Rattle.mutations.specs.Spelling.{batch_spelling, HasSpelling}
+use Rattle.mutations.specs.Cutting.{pieces_of}
 use Rattle.log_files.specs.Reading.{format}
 use Rattle.log_files.specs.Grammar.{Row, row_text, rows_of}
-
--- bytes cut at multiples of a length; the first number is never used up
-abbrev pub pieces_with : ℕ → ℕ → Bytes → List Bytes
-pieces_with zero part bytes = []
-pieces_with (suc fuel) part bytes =
-    if nat_le (length bytes) part then bytes ∷ []
-    else take part bytes ∷ pieces_with fuel part (drop part bytes)
-
-unfoldable pub pieces_of : ℕ → Bytes → List Bytes
-pieces_of part bytes = pieces_with (length bytes + 1) part bytes
 
 -- rows one after the other, each in a new block exactly where it doesn't fit
 abbrev pub with_rows : ℕ → Frames → List Row → Frames

@@ -5,7 +5,8 @@ ghost use Rattle.std.specs.Int.{w32, w64, to_be_bytes};
 ghost use Rattle.fb_bytes.specs.Blocks.{is_block};
 ghost use Rattle.block_frame.specs.Profiles.{part_of};
 ghost use Rattle.log_files.specs.Grammar.{LogFile, row_key, row_text, rows_of};
-ghost use Rattle.log_files.specs.Writing.{IsWritable, log_text, with_rows, pieces_of};
+ghost use Rattle.mutations.specs.Cutting.{pieces_of};
+ghost use Rattle.log_files.specs.Writing.{IsWritable, log_text, with_rows};
 
 use crate::record::FORMAT;
 use block_frame::{FrameWriter, Profile, push_string};

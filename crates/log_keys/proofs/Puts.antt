@@ -1,8 +1,7 @@
 -- One more batch in the table.
-use Rattle.std.proofs.Common.{◌≡◌, ℕ, zero, suc, ◌+◌, ◌<◌, Bool, true, false, ◌&&◌, ◌||◌, cond, eqb, ltb, leb, List, [], ◌∷◌, ◌++◌, length, take, drop, refl, sym, ap, ◌∙◌, append_assoc, Ok, arith}
+use Rattle.std.proofs.Common.{◌≡◌, ℕ, zero, suc, ◌+◌, ◌<◌, Bool, true, false, ◌&&◌, ◌||◌, cond, eqb, ltb, List, [], ◌∷◌, ◌++◌, length, take, drop, refl, sym, ap, ◌∙◌, append_assoc, Ok, arith}
 use Rattle.std.specs.List.{AllByRecursion, flat_map}
-use Rattle.std.proofs.lemmas.Bool.{cond-true, cond-false, leb-false}
-use Rattle.std.proofs.lemmas.List.{append-nil, take-append-drop, length-drop}
+use Rattle.std.proofs.lemmas.Bool.{cond-true, cond-false}
 use Rattle.fb_bytes.specs.Bytes.{Bytes}
 use Rattle.mutations.specs.declared.mutation.Mutation.{Mutation}
 use Rattle.mutations.specs.Reading.{decoded}
@@ -11,7 +10,9 @@ use Rattle.mutations.proofs.Basics.{by_test, all_weaker}
 use Rattle.log_keys.specs.Keys.{Key, is_key_below}
 use Rattle.log_keys.specs.inner.Keys.{first_at}
 use Rattle.log_keys.specs.Logs.{Standing, Spells, IsBatch, with_one, stands}
-use Rattle.log_keys.specs.inner.Parts.{Row, rows_from, spelled, pieces_with, pieces_of}
+use Rattle.mutations.specs.Cutting.{pieces_of}
+use Rattle.mutations.proofs.Cutting.{are_cut}
+use Rattle.log_keys.specs.inner.Parts.{Row, rows_from, spelled}
 use Rattle.log_keys.specs.inner.Table.{Group, standing_of, muts_or_none, muts_in, log_in, rows_of, IsRead, is_group_before, AreInOrder, IsWhole, IsTable, keys_below}
 use Rattle.log_keys.proofs.Orders.{before_trans, before_back, below_before, below_not, or_parts}
 use Rattle.log_keys.proofs.Groups.{whole_in, table_of, log_of, log_is}
@@ -106,34 +107,14 @@ log_with group (g ∷ gs) = with_cond (is_group_before group.job group.version g
 
 -- ---- pieces
 
-pieces_some : (fuel part : ℕ) (bytes : Bytes) → length bytes < fuel → 0 < length (pieces_with fuel part bytes)
-pieces_some zero part bytes lt = absurd (omega arith)
-pieces_some (suc fuel) part bytes lt =
-    by_test (leb (length bytes) part) (λ (xs : List Bytes). 0 < length xs) (bytes ∷ []) (take part bytes ∷ pieces_with fuel part (drop part bytes)) (λ e. omega arith) (λ e. omega arith)
-
-pieces_spell : (fuel part : ℕ) (bytes : Bytes) → 0 < part → length bytes < fuel → spelled (pieces_with fuel part bytes) ≡ bytes
-pieces_spell zero part bytes some lt = absurd (omega arith)
-pieces_spell (suc fuel) part bytes some lt =
-    by_test (leb (length bytes) part) (λ (xs : List Bytes). spelled xs ≡ bytes) (bytes ∷ []) (take part bytes ∷ pieces_with fuel part (drop part bytes))
-    (λ e. append-nil bytes)
-    (λ e.
-    let long = leb-false (length bytes) part e in
-    let short : length (drop part bytes) < fuel = omega (arith, length-drop part bytes) in
-    ap (λ (x : Bytes). take part bytes ++ x) (pieces_spell fuel part (drop part bytes) some short) ∙ take-append-drop part bytes)
-
 abbrev pub group_at : ℕ → ℕ → ℕ → Bytes → Group
 group_at job version part batch = record { job = job; version = version; pieces = pieces_of part batch }
 
 spell_is : (part : ℕ) (batch : Bytes) → 0 < part → spelled (pieces_of part batch) ≡ batch
-unfolding pieces_of
-spell_is part batch some = pieces_spell (length batch + 1) part batch some (omega arith)
+spell_is part batch some = (are_cut part batch some).whole
 
 group_is : (job version part : ℕ) (batch : Bytes) → 0 < part → IsRead batch → IsWhole (group_at job version part batch)
-unfolding pieces_of
-group_is job version part batch some read = record {
-  some = pieces_some (length batch + 1) part batch (omega arith);
-  read = (read.0, ap decoded (spell_is part batch some) ∙ read.1);
-}
+group_is job version part batch some read = record { some = (are_cut part batch some).some; read = (read.0, ap decoded (spell_is part batch some) ∙ read.1) }
 
 -- what is spelled is read
 read_of : (bytes : Bytes) (muts : List Mutation) → Spells bytes muts → decoded bytes ≡ Ok muts

@@ -1,7 +1,7 @@
 -- A version is taken out of one job after the other.
 use Rattle.std.proofs.Common.{◌≡◌, ℕ, zero, suc, ◌+◌, ◌-◌, ◌<◌, ◌≤◌, inl, inr, Bool, true, false, not, cond, ◌&&◌, ◌||◌, eqb, ltb, leb, List, [], ◌∷◌, length, take, get_or, ⊎_elim, refl, sym, ap, subst, ◌∙◌, arith}
 use Rattle.std.specs.List.{AllByRecursion, filter}
-use Rattle.std.proofs.lemmas.Bool.{and_parts, eqb-true, eq-eqb, ne_eqb, lt-ltb, le-ltb, ltb-true, le-leb, lt-leb, leb-true, cases_lt, cond-true, cond-false}
+use Rattle.std.proofs.lemmas.Bool.{and_parts, eqb-true, eq-eqb, lt-ltb, le-ltb, ltb-true, le-leb, lt-leb, leb-true, cases_lt, cond-true, cond-false}
 use Rattle.std.proofs.lemmas.List.{take_all}
 use Rattle.mutations.proofs.Basics.{by_test, not_both}
 use Rattle.log_keys.specs.Keys.{Key, is_key_below}
@@ -10,7 +10,7 @@ use Rattle.log_keys.specs.Logs.{is_between}
 use Rattle.log_keys.specs.inner.Parts.{Row}
 use Rattle.log_keys.specs.inner.Table.{AreRising, keys_below}
 use Rattle.log_keys.proofs.Orders.{all_filter}
-use Rattle.log_keys.proofs.Places.{Below, below_is, is_kept}
+use Rattle.log_keys.proofs.Places.{below_is, is_kept}
 
 -- ---- tests
 

@@ -4,7 +4,8 @@ ghost use Rattle.std.specs.Prelude.{◌≡◌, ◌+◌, ◌*◌, ◌<◌, ◌≤
 ghost use Rattle.std.specs.List.{filter};
 ghost use Rattle.log_keys.specs.inner.Keys.{first_at};
 ghost use Rattle.log_keys.specs.Logs.{is_between, is_older};
-ghost use Rattle.log_keys.specs.inner.Parts.{rows_from, pieces_of};
+ghost use Rattle.mutations.specs.Cutting.{pieces_of};
+ghost use Rattle.log_keys.specs.inner.Parts.{rows_from};
 ghost use Rattle.log_keys.specs.inner.Table.{AreRising, keys_below, has_part, rows_between};
 
 use crate::key::LogKey;

@@ -10,3 +10,4 @@ pub mod Clips
 pub mod Logs
 pub mod States
 pub mod Ends
+pub mod Cutting

@@ -4,6 +4,7 @@ pub mod Replay
 pub mod Histories
 pub mod Spelling
 pub mod Parts
+pub mod Cutting
 pub mod Reading
 pub mod Laws
 pub mod Transactions

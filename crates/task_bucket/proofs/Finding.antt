@@ -1,5 +1,6 @@
 -- The place of a task, where the uids rise, and what a change at that place is.
-use Rattle.std.proofs.Common.{◌≡◌, ℕ, zero, suc, ◌+◌, ◌<◌, ◌≤◌, Bool, true, false, cond, ◌&&◌, ltb, leb, eqb, List, [], ◌∷◌, length, get_or, set, map, Option, Some, None, refl, sym, ap, ◌∙◌, arith}
+use Rattle.std.proofs.Common.{◌≡◌, ℕ, zero, suc, ◌+◌, ◌<◌, ◌≤◌, Bool, true, false, not, cond, ◌&&◌, ltb, leb, eqb, List, [], ◌∷◌, length, get_or, set, map, Option, Some, None, refl, sym, ap, ◌∙◌, arith}
+use Rattle.std.specs.List.{filter, remove}
 use Rattle.std.specs.List.Sorted.{IsPartitionedBy, IsPartitionPoint}
 use Rattle.std.proofs.lemmas.Bool.{ne_eqb, lt-ltb, le-ltb, ltb-true, ltb-false, le-leb, leb-true, leb-false}
 use Rattle.task_bucket.specs.declared.held.Held.{Held}
@@ -152,3 +153,61 @@ changed_none uid f k (h ∷ hs) le = go (ltb h.uid uid) refl le (changed_none ui
         let low = ltb-true h.uid uid less in
         ap (λ (y : Held). y ∷ hs) (sym (k h (λ q. omega (arith, low, q)))) ∙ ap (λ (ys : List Held). f h ∷ ys) (ih (omega arith))
     go false less le ih = absurd (omega arith)
+
+-- ---- what is taken out
+
+-- the test fails for all with other uids
+abbrev pub IsOf : ℕ → (Held → Bool) → Type 0
+IsOf uid test = (h : Held) → (h.uid ≡ uid → ⊥) → test h ≡ false
+
+pub lease_of_uid : (until uid : ℕ) → IsOf uid (held_is until uid)
+lease_of_uid until uid h other = other_is until uid h other
+
+pub uid_of_uid : (uid : ℕ) → IsOf uid (λ h. eqb h.uid uid)
+uid_of_uid uid h other = ne_eqb h.uid uid other
+
+out_past : (uid : ℕ) (test : Held → Bool) → IsOf uid test → (u : ℕ) (hs : List Held) → ArePast u hs → uid ≤ u → hs ≡ filter (λ h. not (test h)) hs
+out_past uid test of u [] p le = refl
+out_past uid test of u (h ∷ hs) p le =
+    ap (λ (xs : List Held). h ∷ xs) (out_past uid test of u hs p.1 le) ∙ sym (ap (λ (b : Bool). cond (not b) (h ∷ filter (λ h. not (test h)) hs) (filter (λ h. not (test h)) hs)) (of h (λ e. omega (arith, p.0, e, le))))
+
+-- one that stays in front
+out_on : (test : Held → Bool) (h : Held) (hs new : List Held) → test h ≡ false → new ≡ filter (λ h. not (test h)) hs → h ∷ new ≡ filter (λ h. not (test h)) (h ∷ hs)
+out_on test h hs new e is = ap (λ (xs : List Held). h ∷ xs) is ∙ sym (ap (λ (b : Bool). cond (not b) (h ∷ filter (λ h. not (test h)) hs) (filter (λ h. not (test h)) hs)) e)
+
+pub out_none : (uid : ℕ) (test : Held → Bool) → IsOf uid test → (hs : List Held) → length hs ≤ lesser_count uid hs → hs ≡ filter (λ h. not (test h)) hs
+out_none uid test of [] le = refl
+out_none uid test of (h ∷ hs) le = go (ltb h.uid uid) refl le (out_none uid test of hs)
+  where
+    go : (b : Bool) → ltb h.uid uid ≡ b → length (h ∷ hs) ≤ cond b (lesser_count uid hs + 1) 0 → (length hs ≤ lesser_count uid hs → hs ≡ filter (λ h. not (test h)) hs) → h ∷ hs ≡ filter (λ h. not (test h)) (h ∷ hs)
+    go true e le ih = let less = ltb-true h.uid uid e in out_on test h hs hs (of h (λ q. omega (arith, less, q))) (ih (omega arith))
+    go false e le ih = absurd (omega arith)
+
+pub out_there : (uid : ℕ) (test : Held → Bool) → IsOf uid test → (hs : List Held) (i : ℕ) (d : Held) → AreRising hs → i ≡ lesser_count uid hs → i < length hs → test (get_or hs i d) ≡ true → remove hs i ≡ filter (λ h. not (test h)) hs
+out_there uid test of [] i d r is lt e = absurd (omega arith)
+out_there uid test of (h ∷ hs) i d r is lt e = go (ltb h.uid uid) refl is (λ j. out_there uid test of hs j d r.1)
+  where
+    go : (b : Bool) → ltb h.uid uid ≡ b → i ≡ cond b (lesser_count uid hs + 1) 0 → ((j : ℕ) → j ≡ lesser_count uid hs → j < length hs → test (get_or hs j d) ≡ true → remove hs j ≡ filter (λ h. not (test h)) hs) → remove (h ∷ hs) i ≡ filter (λ h. not (test h)) (h ∷ hs)
+    go true low is ih =
+        let next : i ≡ suc (lesser_count uid hs) = omega (arith, is) in
+        let less = ltb-true h.uid uid low in
+        ap (remove (h ∷ hs)) next
+        ∙ out_on test h hs (remove hs (lesser_count uid hs)) (of h (λ q. omega (arith, less, q))) (ih (lesser_count uid hs) refl (omega (arith, next)) (ap (λ (k : ℕ). test (get_or (h ∷ hs) k d)) (sym next) ∙ e))
+    go false low is ih =
+        let more = ltb-false h.uid uid low in
+        let here : test h ≡ true = ap (λ (k : ℕ). test (get_or (h ∷ hs) k d)) (sym is) ∙ e in
+        ap (remove (h ∷ hs)) is ∙ out_past uid test of h.uid hs r.0 more
+        ∙ sym (ap (λ (b : Bool). cond (not b) (h ∷ filter (λ h. not (test h)) hs) (filter (λ h. not (test h)) hs)) here)
+
+pub out_other : (uid : ℕ) (test : Held → Bool) → IsOf uid test → (hs : List Held) (i : ℕ) (d : Held) → AreRising hs → i ≡ lesser_count uid hs → i < length hs → test (get_or hs i d) ≡ false → hs ≡ filter (λ h. not (test h)) hs
+out_other uid test of [] i d r is lt e = absurd (omega arith)
+out_other uid test of (h ∷ hs) i d r is lt e = go (ltb h.uid uid) refl is (λ j. out_other uid test of hs j d r.1)
+  where
+    go : (b : Bool) → ltb h.uid uid ≡ b → i ≡ cond b (lesser_count uid hs + 1) 0 → ((j : ℕ) → j ≡ lesser_count uid hs → j < length hs → test (get_or hs j d) ≡ false → hs ≡ filter (λ h. not (test h)) hs) → h ∷ hs ≡ filter (λ h. not (test h)) (h ∷ hs)
+    go true low is ih =
+        let next : i ≡ suc (lesser_count uid hs) = omega (arith, is) in
+        let less = ltb-true h.uid uid low in
+        out_on test h hs hs (of h (λ q. omega (arith, less, q))) (ih (lesser_count uid hs) refl (omega (arith, next)) (ap (λ (k : ℕ). test (get_or (h ∷ hs) k d)) (sym next) ∙ e))
+    go false low is ih =
+        let more = ltb-false h.uid uid low in
+        out_on test h hs hs (ap (λ (k : ℕ). test (get_or (h ∷ hs) k d)) (sym is) ∙ e) (out_past uid test of h.uid hs r.0 more)

@@ -1,7 +1,6 @@
 -- The task that a claim picks, found by going over the uids as they rise.
-use Rattle.std.proofs.Common.{◌≡◌, ℕ, zero, suc, ◌+◌, ◌<◌, Bool, true, false, cond, ltb, leb, List, [], ◌∷◌, ◌++◌, length, get_or, take, Option, Some, None, refl, sym, ap, subst, ◌∙◌, arith, inl, inr}
+use Rattle.std.proofs.Common.{◌≡◌, ℕ, ◌<◌, Bool, true, false, cond, ltb, leb, List, [], ◌∷◌, ◌++◌, Option, Some, None, refl, sym, ap, subst, ◌∙◌, arith, inl, inr}
 use Rattle.std.proofs.lemmas.Bool.{lt-ltb, le-ltb, le-leb, leb-true, cases_lt}
-use Rattle.std.proofs.lemmas.List.{append-nil, take_more}
 use Rattle.fb_bytes.specs.Options.{IsIn, better_of, best_of}
 use Rattle.task_bucket.specs.declared.held.Held.{Held}
 use Rattle.task_bucket.specs.Lists.{Slot}

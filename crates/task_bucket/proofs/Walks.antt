@@ -1,5 +1,5 @@
 -- The task that a claim picks, found by a walk down from the place of the pick, and then up from it.
-use Rattle.std.proofs.Common.{◌≡◌, ℕ, zero, suc, ◌+◌, ◌-◌, ◌<◌, ◌≤◌, Bool, true, false, not, cond, ltb, leb, List, [], ◌∷◌, ◌++◌, length, get_or, take, drop, reverse, Option, Some, None, refl, sym, ap, subst, ◌∙◌, append_assoc, arith}
+use Rattle.std.proofs.Common.{◌≡◌, ℕ, suc, ◌+◌, ◌-◌, ◌<◌, ◌≤◌, Bool, true, false, not, cond, ltb, List, [], ◌∷◌, ◌++◌, length, get_or, take, drop, reverse, Option, Some, None, refl, sym, ap, subst, ◌∙◌, append_assoc, arith}
 use Rattle.std.specs.Option.{option_map}
 use Rattle.std.specs.Prelude.{IfSome}
 use Rattle.std.proofs.Math.Seq.{drop-cons}
@@ -11,7 +11,7 @@ use Rattle.task_bucket.specs.declared.held.Held.{Held}
 use Rattle.task_bucket.specs.Lists.{Slot}
 use Rattle.fb_bytes.specs.Options.{best_of}
 use Rattle.task_bucket.specs.Claims.{picked, or_least, is_at_or_below, has_greater_uid}
-use Rattle.task_bucket.specs.inner.Held.{slot_in, slots_in, ArePast, AreRising, until_allows, candidate, candidates, is_free, is_idle, or_due, place_for, place_at}
+use Rattle.task_bucket.specs.inner.Held.{slot_in, ArePast, AreRising, until_allows, candidate, candidates, is_free, is_idle, or_due, place_for, place_at}
 use Rattle.task_bucket.proofs.Views.{past_less}
 use Rattle.task_bucket.proofs.Picks.{AreBelow, step_of, picked_push, candidates-append}
 use Rattle.task_bucket.proofs.Claiming.{place_within, none_free, candidates_free, some_slots}

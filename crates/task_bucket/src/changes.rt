@@ -1,13 +1,13 @@
 //! The changes of a bucket, on its one list of tasks.
 
-ghost use Rattle.std.specs.Prelude.{◌≡◌, ◌⊎◌, ◌↔◌, ◌+◌, ◌<◌, ◌^◌, ◌==◌, not, false, true, Some, Ok, Err, if◌then◌else◌, IfOk, IfErr, OnOk, OnErr, IsErrOf};
-ghost use Rattle.std.specs.List.{filter};
+ghost use Rattle.std.specs.Prelude.{◌≡◌, ◌⊎◌, ◌↔◌, ◌+◌, ◌<◌, ◌^◌, ◌==◌, length, not, false, true, Some, Ok, Err, if◌then◌else◌, IfOk, IfErr, OnOk, OnErr, IsErrOf};
+ghost use Rattle.std.specs.List.{filter, remove};
 ghost use Rattle.task_bucket.specs.Lists.{has_uid, without_uid, without_job, is_leased};
 ghost use Rattle.task_bucket.specs.Claims.{claimed, after_claim};
 ghost use Rattle.task_bucket.specs.Leases.{extended_in, retimed_in, finished_in};
 ghost use Rattle.task_bucket.specs.inner.Held.{AreRising, held_is, lists_in, put_into};
 
-use crate::held::{Held, find, is_leased, lease_out, picked, place_for, retime, wake_if};
+use crate::held::{Held, find, is_leased, lease_out, picked, place_for, place_of, retime, wake_if};
 use crate::{Lease, LeaseFault};
 use std::alloc::AllocError;
 
@@ -105,10 +105,24 @@ pub fn extend_in(held: &mut Vec<Held>, until: u64, uid: u64, new: u64) -> Result
     retimed(held, until, uid, new)
 }
 
+fn take_out(held: &mut Vec<Held>, at: usize)
+    requires { at < length held.old.items }
+    ensures { held.new.items ≡ remove held.old.items at }
+{
+    held.remove(at);
+}
+
 fn keep_other_leases(held: &mut Vec<Held>, until: u64, uid: u64)
+    requires { AreRising held.old.items }
     ensures { held.new.items ≡ filter (λ h. not (held_is until uid h)) held.old.items }
 {
-    held.retain(|one| !one.is_lease(until, uid));
+    let place = place_of(held, uid);
+    if place >= held.len() {
+        return;
+    }
+    if held[place].is_lease(until, uid) {
+        take_out(held, place);
+    }
 }
 
 fn keep_other_jobs(held: &mut Vec<Held>, job: u64)
@@ -118,9 +132,16 @@ fn keep_other_jobs(held: &mut Vec<Held>, job: u64)
 }
 
 fn keep_other_uids(held: &mut Vec<Held>, uid: u64)
+    requires { AreRising held.old.items }
     ensures { held.new.items ≡ filter (λ h. not (h.uid == uid)) held.old.items }
 {
-    held.retain(|one| one.uid != uid);
+    let place = place_of(held, uid);
+    if place >= held.len() {
+        return;
+    }
+    if held[place].uid == uid {
+        take_out(held, place);
+    }
 }
 
 /// Takes the lease of this uid until this version out.

@@ -90,7 +90,7 @@ pub fn place_for(held: &[Held], uid: u64) -> usize
 }
 
 /// How many have lesser uids: where the task with this uid stands, or would stand. It halves.
-fn place_of(held: &[Held], uid: u64) -> usize
+pub fn place_of(held: &[Held], uid: u64) -> usize
     requires { AreRising held.now }
     ensures { result ≡ lesser_count uid held.now }
 {

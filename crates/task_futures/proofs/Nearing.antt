@@ -5,7 +5,7 @@ use Rattle.std.proofs.lemmas.Bool.{ne_eqb, lt-ltb, ltb-true, ltb-false}
 use Rattle.std.proofs.lemmas.List.{append-nil, length-drop, take_all}
 use Rattle.fb_bytes.proofs.Mapped.{drop-all}
 use Rattle.task_kinds.specs.Tasks.{SeenTask}
-use Rattle.task_futures.specs.Futures.{Part, SeenFuture, falls, left, passed_on, kept_joins, settle, becomes_set, newly_set}
+use Rattle.task_futures.specs.Futures.{Part, SeenFuture, falls, left, passed_on, settle, becomes_set, newly_set}
 use Rattle.task_futures.specs.Laws.{ArePast, AreRising, HasPassedOn, HavePassedOn}
 use Rattle.task_futures.specs.inner.Changes.{lesser_count, nearer, nearest_onto, nearest, is_number_of, AreSpared, IsNextPlace}
 use Rattle.task_futures.proofs.Finding.{past_at}

@@ -1,11 +1,11 @@
 use Rattle.std.proofs.Common.{refl, ap, ◌∙◌, arith}
 use Rattle.fb_bytes.specs.Bytes.{Bytes}
 use Rattle.log_files.specs.Grammar.{row_text}
-use Rattle.log_files.proofs.Writer.{row_at, parts_begin, parts_more, parts_end}
+use Rattle.log_files.proofs.Writer.{row_at, parts_more, parts_end}
 use Rattle.log_files.proofs.writing.put_batch.Goals as goal
 
 pub parts-init : goal.parts-init
-parts-init g c = record { few = omega arith; so_far = parts_begin g.row.BLOCK c.args.part c.args.frames.now c.args.version c.args.bytes.now }
+parts-init g c = record { few = omega arith; so_far = refl }
 
 pub parts-preserved : goal.parts-preserved
 parts-preserved g c = record {

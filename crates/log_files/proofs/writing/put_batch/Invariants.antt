@@ -1,6 +1,7 @@
 use Rattle.std.proofs.Common.{◌+◌, ◌*◌, ◌≤◌, length}
 use Rattle.log_files.specs.Grammar.{rows_of}
-use Rattle.log_files.specs.Writing.{with_rows, pieces_of}
+use Rattle.mutations.specs.Cutting.{pieces_of}
+use Rattle.log_files.specs.Writing.{with_rows}
 use Rattle.log_files.proofs.Writer.{PartsSoFar}
 use Rattle.log_files.proofs.writing.put_batch.Given as goal
 

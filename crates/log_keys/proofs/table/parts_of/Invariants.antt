@@ -1,5 +1,6 @@
 use Rattle.std.proofs.Common.{◌+◌, ◌*◌, ◌^◌, ◌≤◌, length}
-use Rattle.log_keys.specs.inner.Parts.{rows_from, pieces_of}
+use Rattle.mutations.specs.Cutting.{pieces_of}
+use Rattle.log_keys.specs.inner.Parts.{rows_from}
 use Rattle.log_keys.proofs.Cutting.{PartsSoFar}
 use Rattle.log_keys.proofs.table.parts_of.Given as goal
 

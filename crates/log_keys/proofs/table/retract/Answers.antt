@@ -1,7 +1,6 @@
-use Rattle.std.proofs.Common.{◌≡◌, ◌<◌, length, get_or, sym, ap, ◌∙◌, subst, arith}
+use Rattle.std.proofs.Common.{◌<◌, length, sym, ap, ◌∙◌, subst, arith}
 use Rattle.log_keys.specs.inner.Table.{AreRising}
 use Rattle.log_keys.proofs.Retracts.{past, retracts_on, retracts_less, retracts_all, rising_filter}
-use Rattle.log_keys.proofs.Places.{is_kept}
 use Rattle.log_keys.proofs.table.retract.Goals as goal
 
 pub place_past-done-requires : goal.place_past-done-requires

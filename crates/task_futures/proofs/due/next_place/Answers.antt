@@ -1,4 +1,4 @@
-use Rattle.std.proofs.Common.{◌≡◌, get_or, ap, sym, ◌∙◌, arith}
+use Rattle.std.proofs.Common.{ap, sym, ◌∙◌, arith}
 use Rattle.task_futures.specs.inner.Changes.{nearest}
 use Rattle.task_futures.proofs.Nearing.{next_none, next_some, next_past}
 use Rattle.task_futures.proofs.due.next_place.Goals as goal
