@@ -15,10 +15,10 @@ pub invariant_of-self-2 : goal.invariant_of-self-2
 invariant_of-self-2 g c = commit_leaves_world c.self.inside.workload c.self.inside.src c.self.inside.dst c.commit_client.new.src c.commit_client.new.dst c.self.inside.versions c.commit_client.new.versions (record { jobs = c.self.inside.jobs.items; place = c.self.inside.place; tickets = c.self.inside.tickets }) (g.V.Vault.files c.self.inside.vault) c.self.inside.clients.items c.deref_mut.result.now c.commit_client.new.clients c.self.inside.clients.len c.args.number c.commit_client.result c.self.invariant c.deref_mut.ensures.value c.self.inside.clients.ok.0 c.commit_client.auto.clients c.commit_client.ensures.blocks c.commit_client.ensures.logs c.commit_client.ensures.pace c.commit_client.ensures.ok c.commit_client.ensures.err
 
 pub commit_client-requires-clause-src : goal.commit_client-requires-clause-src
-commit_client-requires-clause-src g c = (c.self.invariant.sound.histories Src).past
+commit_client-requires-clause-src g c = (c.self.invariant.sound.databases.histories Src).past
 
 pub commit_client-requires-clause-dst : goal.commit_client-requires-clause-dst
-commit_client-requires-clause-dst g c = (c.self.invariant.sound.histories Dst).past
+commit_client-requires-clause-dst g c = (c.self.invariant.sound.databases.histories Dst).past
 
 pub returns-clause-step : goal.returns-clause-step
 returns-clause-step g c =

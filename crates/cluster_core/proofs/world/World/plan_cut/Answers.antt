@@ -31,4 +31,4 @@ pub returns-clause-safe : goal.returns-clause-safe
 returns-clause-safe g c =
     cut_safe c.args.self.now.workload.settings c.args.self.now.state c.args.place c.index-job.result.now c.requires.at.0 c.in_ok-filing.filing
     (subst (λ (seen : Seen). c.index-job.result.now ≡ slice_index_or seen.state.jobs c.args.place c.index-job.result.now) c.self.view_is c.index-job.ensures)
-    c.requires.at.1 c.in_ok-filing.ensures.file c.in_ok-filing.ensures.drawn (subst (λ (seen : Seen). seen.state.time ≤ most_version) c.self.view_is c.self.invariant.sound.bound)
+    c.requires.at.1 c.in_ok-filing.ensures.file c.in_ok-filing.ensures.drawn (subst (λ (seen : Seen). seen.state.time ≤ most_version) c.self.view_is c.self.invariant.sound.clock.bound)
