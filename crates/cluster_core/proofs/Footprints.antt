@@ -14,12 +14,12 @@ use Rattle.workload_text.specs.declared.Workload.{Workload}
 use Rattle.database.specs.Commits.{commit_answer, history_after, time_after}
 use Rattle.client_core.specs.Clients.{ClientState, begun_client, next_ops, who_of, try_of}
 use Rattle.client_core.specs.Ends.{end_of, version_of}
-use Rattle.cluster_core.specs.declared.Answer.{Answer}
-use Rattle.cluster_core.specs.declared.Event.{Event}
-use Rattle.cluster_core.specs.declared.Event.TheVariants as events
-use Rattle.cluster_core.specs.declared.StepFault.{StepFault}
-use Rattle.cluster_core.specs.declared.StepFault.TheVariants.{VersionsSpent, NoMemory}
-use Rattle.cluster_core.specs.declared.Refusal.TheVariants.{TagBusy, WrongState, NothingNew}
+use Rattle.cluster_core.specs.declared.event.Answer.{Answer}
+use Rattle.cluster_core.specs.declared.event.Event.{Event}
+use Rattle.cluster_core.specs.declared.event.Event.TheVariants as events
+use Rattle.cluster_core.specs.declared.event.StepFault.{StepFault}
+use Rattle.cluster_core.specs.declared.event.StepFault.TheVariants.{VersionsSpent, NoMemory}
+use Rattle.cluster_core.specs.declared.refusal.Refusal.TheVariants.{TagBusy, WrongState, NothingNew}
 use Rattle.cluster_core.specs.Jobs.{Job, Found, newest, started_in, state_of_job, logs_of}
 use Rattle.cluster_core.specs.State.{State, history_on, with_history, client_at, put_client, with_job, with_put}
 use Rattle.cluster_core.specs.Moves.{names_said, Luck, Fine, FailsOld, FailsNew, Starved, is_starved, Moved, moved}

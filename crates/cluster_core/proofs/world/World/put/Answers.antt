@@ -1,4 +1,4 @@
-use Rattle.std.proofs.Common.{◌≡◌, ℕ, ◌+◌, ◌<◌, List, [], length, Option, slice_set, Ok, Err, ◌⊎◌, ap, sym, subst, ◌∙◌}
+use Rattle.std.proofs.Common.{◌≡◌, ℕ, ◌+◌, ◌<◌, List, length, Option, slice_set, Ok, Err, ◌⊎◌, ap, sym, subst, ◌∙◌}
 use Rattle.fb_bytes.specs.Bytes.{Bytes}
 use Rattle.fb_outside.specs.declared.File.{File}
 use Rattle.cluster_core.specs.declared.event.Answer.TheVariants as answers
