@@ -1,8 +1,7 @@
 -- Keys and their versions: each key has a chain of rows, one for each version that changed it.
-use Rattle.std.specs.Prelude.{◌≡◌, ℕ, zero, suc, ◌<◌, Bool, true, List, [], ◌∷◌, length, Option}
+use Rattle.std.specs.Prelude.{ℕ, zero, suc, Bool, List, [], ◌∷◌, Option}
 use Rattle.std.specs.Prelude.{None, nat_le, if◌then◌else◌}
-use Rattle.std.specs.List.{AllByRecursion}
-use Rattle.fb_bytes.specs.Bytes.{Bytes, is_below, is_same}
+use Rattle.fb_bytes.specs.Bytes.{Bytes, is_same}
 pub use Rattle.versioned_kv.specs.declared.chain.Row.{Row}
 pub use Rattle.versioned_kv.specs.declared.chain.Chain.{Chain}
 

@@ -1,12 +1,8 @@
 -- What a version adds to keys, and what is left without it.
-use Rattle.std.specs.Prelude.{◌≡◌, ℕ, zero, suc, ◌≤◌, List, [], ◌∷◌, ◌++◌, Bool, false, Option}
-use Rattle.std.specs.Prelude.{Some, None, nat_eq, is_some, if◌then◌else◌}
-use Rattle.std.specs.List.{AllByRecursion}
-use Rattle.fb_bytes.specs.Bytes.{Bytes, is_below, is_same}
-use Rattle.fb_bytes.specs.declared.KeyRange.{KeyRange}
-use Rattle.fb_bytes.specs.Keys.{holds}
-use Rattle.versioned_kv.specs.Chains.{Row, Chain, value_in}
-use Rattle.versioned_kv.specs.inner.Chains.{AreChains}
+use Rattle.std.specs.Prelude.{ℕ, List, [], ◌∷◌}
+use Rattle.std.specs.Prelude.{nat_eq, if◌then◌else◌}
+use Rattle.fb_bytes.specs.Bytes.{Bytes}
+use Rattle.versioned_kv.specs.Chains.{Row, Chain}
 
 -- the rows of other versions
 abbrev pub without_rows : ℕ → List Row → List Row

@@ -1,14 +1,11 @@
 -- What mutations touch, and what stays as it was elsewhere.
-use Rattle.std.specs.Prelude.{◌≡◌, ℕ, ◌+◌, ◌≤◌, Bool, false, ◌&&◌, ◌||◌, List, [], ◌∷◌, length}
-use Rattle.std.specs.Prelude.{is_some}
+use Rattle.std.specs.Prelude.{◌≡◌, ◌+◌, ◌≤◌, Bool, false, ◌||◌, List, [], ◌∷◌, length}
 use Rattle.std.specs.List.{AllByRecursion}
 use Rattle.fb_bytes.specs.Bytes.{Bytes}
-use Rattle.fb_bytes.specs.declared.KeyRange.{KeyRange}
-use Rattle.fb_bytes.specs.Keys.{holds}
 use Rattle.fb_bytes.specs.Options.{IsIn}
 use Rattle.mutations.specs.declared.mutation.Mutation.{Mutation}
 use Rattle.mutations.specs.Effects.{touches_key}
-use Rattle.versioned_kv.specs.Chains.{Chain, rows_of, value_at}
+use Rattle.versioned_kv.specs.Chains.{Chain, rows_of}
 
 -- some mutation names the key
 abbrev pub touched : List Mutation → Bytes → Bool

@@ -1,8 +1,7 @@
 -- The order of keys and rows, and where a key stands.
-use Rattle.std.specs.Prelude.{◌≡◌, ℕ, zero, suc, ◌<◌, Bool, true, List, [], ◌∷◌, length, Option}
-use Rattle.std.specs.Prelude.{None, nat_le, if◌then◌else◌}
+use Rattle.std.specs.Prelude.{◌≡◌, ℕ, ◌<◌, Bool, true, List, [], ◌∷◌, length}
 use Rattle.std.specs.List.{AllByRecursion}
-use Rattle.fb_bytes.specs.Bytes.{Bytes, is_below, is_same}
+use Rattle.fb_bytes.specs.Bytes.{Bytes, is_below}
 use Rattle.versioned_kv.specs.declared.chain.Row.{Row}
 use Rattle.versioned_kv.specs.declared.chain.Chain.{Chain}
 use Rattle.versioned_kv.specs.Chains.{front_len}

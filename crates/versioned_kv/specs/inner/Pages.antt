@@ -1,13 +1,11 @@
 -- What a part of a scan gives.
-use Rattle.std.specs.Prelude.{◌≡◌, ℕ, ◌≤◌, Bool, true, ◌&&◌, List, [], ◌∷◌, ◌++◌, length, Option}
-use Rattle.std.specs.Prelude.{Some, None, is_some, unwrap_or, if◌then◌else◌}
-use Rattle.fb_bytes.specs.Bytes.{Bytes, is_below}
+use Rattle.std.specs.Prelude.{◌≡◌, ℕ, ◌≤◌, List, [], ◌∷◌, ◌++◌, length, Option}
+use Rattle.std.specs.Prelude.{Some, None, unwrap_or, if◌then◌else◌}
+use Rattle.fb_bytes.specs.Bytes.{Bytes}
 use Rattle.fb_bytes.specs.declared.KeyRange.{KeyRange}
 use Rattle.fb_bytes.specs.Keys.{holds}
 use Rattle.fb_bytes.specs.declared.Pair.{Pair}
-use Rattle.fb_bytes.specs.Pairs.{value_of}
 use Rattle.versioned_kv.specs.Chains.{Chain, value_in, value_at}
-use Rattle.versioned_kv.specs.declared.page.Page.{Page}
 use Rattle.versioned_kv.specs.Pages.{IsNext}
 
 -- the pair of a key with its value, where it has one

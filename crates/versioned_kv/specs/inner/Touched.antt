@@ -1,14 +1,10 @@
 -- Which keys a clear touches.
-use Rattle.std.specs.Prelude.{◌≡◌, ℕ, ◌+◌, ◌≤◌, Bool, false, ◌&&◌, ◌||◌, List, [], ◌∷◌, length}
+use Rattle.std.specs.Prelude.{ℕ, Bool, ◌&&◌, List}
 use Rattle.std.specs.Prelude.{is_some}
-use Rattle.std.specs.List.{AllByRecursion}
 use Rattle.fb_bytes.specs.Bytes.{Bytes}
 use Rattle.fb_bytes.specs.declared.KeyRange.{KeyRange}
 use Rattle.fb_bytes.specs.Keys.{holds}
-use Rattle.fb_bytes.specs.Options.{IsIn}
-use Rattle.mutations.specs.declared.mutation.Mutation.{Mutation}
-use Rattle.mutations.specs.Effects.{touches_key}
-use Rattle.versioned_kv.specs.Chains.{Chain, rows_of, value_at}
+use Rattle.versioned_kv.specs.Chains.{Chain, value_at}
 
 -- the range holds the key, and the key has a value
 abbrev pub has_value_in : KeyRange → ℕ → List Chain → Bytes → Bool
