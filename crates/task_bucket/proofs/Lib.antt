@@ -3,3 +3,5 @@ pub mod Picks
 pub mod Views
 pub mod Claiming
 pub mod Walks
+pub mod Totals
+pub mod Weighing

@@ -1,4 +1,6 @@
 pub mod Lists
 pub mod Claims
 pub mod Leases
+pub mod Sums
+pub mod Laws
 pub mod inner

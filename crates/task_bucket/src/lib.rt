@@ -4,10 +4,12 @@
 mod bucket;
 mod changes;
 mod held;
+mod laws;
 mod lease;
 mod list_bucket;
 
 pub use bucket::Bucket;
+pub use laws::sums_law;
 pub use lease::{Lease, LeaseFault};
 pub use list_bucket::ListBucket;
 

@@ -2,3 +2,5 @@ pub mod Kinds
 pub mod Params
 pub mod Tasks
 pub mod Tuples
+pub mod Works
+pub mod Laws

@@ -1,5 +1,5 @@
 -- What parameters are.
-use Rattle.std.specs.Prelude.{ℕ, ◌<◌, ◌^◌}
+use Rattle.std.specs.Prelude.{◌<◌, ◌^◌}
 use Rattle.task_kinds.specs.declared.kind.Shape.{Shape}
 use Rattle.task_kinds.specs.declared.kind.Shape.TheVariants as shapes
 use Rattle.task_kinds.specs.declared.params.Params.{Params}

@@ -1,11 +1,11 @@
 -- The one tuple of a task, and the task of a tuple.
-use Rattle.std.specs.Prelude.{◌≡◌, ℕ, ◌^◌, Bool, List, [], ◌∷◌, Option, Some, None, Result, Ok, Err}
+use Rattle.std.specs.Prelude.{ℕ, ◌^◌, List, [], ◌∷◌, Option, Some, None, Result, Err}
 use Rattle.std.specs.Prelude.{ℤ, pos, negsuc, nat_lt, nat_le, if◌then◌else◌}
 use Rattle.fb_bytes.specs.Options.{◌>>=◌}
 use Rattle.fb_bytes.specs.Results.{found_or}
 use Rattle.fb_bytes.specs.declared.key_range.KeyRange.{KeyRange}
 use Rattle.tuple_keys.specs.declared.element.Element.{Element}
-use Rattle.tuple_keys.specs.declared.element.Element.TheVariants.{Null, Bytes, Text, Int}
+use Rattle.tuple_keys.specs.declared.element.Element.TheVariants.{Bytes, Int}
 use Rattle.task_kinds.specs.declared.kind.Kind.{Kind}
 use Rattle.task_kinds.specs.declared.kind.Shape.{Shape}
 use Rattle.task_kinds.specs.declared.kind.Shape.TheVariants as shapes

@@ -33,12 +33,14 @@ macro_rules! each_kind {
 
 mod fault;
 mod kind;
+mod laws;
 mod params;
 mod task;
 mod tuples;
 
 pub use fault::KindFault;
 pub use kind::{Kind, Shape};
+pub use laws::work_law;
 pub use params::Params;
 pub use task::Task;
 pub use tuples::{from_tuple, to_tuple};
