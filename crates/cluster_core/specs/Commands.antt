@@ -23,7 +23,7 @@ use Rattle.workload_text.specs.declared.Command.{Command}
 use Rattle.workload_text.specs.declared.Command.TheVariants as commands
 use Rattle.cluster_core.specs.declared.event.Answer.TheVariants.{Nothing, Done, Placed, Refused}
 use Rattle.cluster_core.specs.declared.event.Answer.TheVariants.{State}
-use Rattle.cluster_core.specs.declared.event.StepFault.TheVariants.{VaultFault, VersionsSpent}
+use Rattle.cluster_core.specs.declared.event.StepFault.TheVariants.{VersionsSpent}
 use Rattle.cluster_core.specs.declared.event.StepFault.TheVariants.{NoMemory}
 use Rattle.cluster_core.specs.declared.refusal.Refusal.{Refusal}
 use Rattle.cluster_core.specs.declared.refusal.Refusal.TheVariants.{TagBusy, ContainerTaken}

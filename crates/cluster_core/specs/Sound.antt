@@ -32,7 +32,7 @@ use Rattle.database.specs.Dumps.{AreWithin}
 use Rattle.client_core.specs.Clients.{ClientState}
 use Rattle.client_core.specs.Legal.{entries_by, IsLegal}
 use Rattle.cluster_core.specs.Jobs.{Job}
-use Rattle.cluster_core.specs.State.{State, on_side, history_on, client_at}
+use Rattle.cluster_core.specs.State.{State, on_side, client_at}
 
 -- The entries stand in the order of their versions, and none is past the newest version.
 pub record IsOrdered (time : ℕ) (history : List Entry) : Type 0 where

@@ -18,6 +18,8 @@ mod world;
 pub use event::{Answer, Event, StepFault};
 pub use job::{Job, Jobs};
 pub use job_state::JobState;
-pub use laws::{elsewhere_law, faithful_law, footprint_law, least_key_law, opening_law, run_law, step_law};
+pub use laws::{
+    elsewhere_law, faithful_law, footprint_law, least_key_law, opening_law, run_law, step_law,
+};
 pub use refusal::Refusal;
 pub use world::{OpenFault, Parts, World};

@@ -70,7 +70,7 @@ pub struct World<V: Vault> {
 
 impl<V: Vault> Model for World<V> {
     ghost use Rattle.cluster_core.specs.World.{Seen};
-ghost use Rattle.cluster_core.specs.inner.World.{Desk, allowed_code, state_of, IsWorld};
+    ghost use Rattle.cluster_core.specs.inner.World.{Desk, allowed_code, state_of, IsWorld};
     ghost use Rattle.std.specs.Coded.{codes};
 
     ghost Value = { Seen };

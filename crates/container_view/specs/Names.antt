@@ -1,6 +1,6 @@
 -- What the names of a container's files say without their bytes.
-use Rattle.std.specs.Prelude.{◌≡◌, ℕ, ◌-◌, max, ◌==◌, Bool, false, ◌&&◌, ◌||◌, List, [], ◌∷◌, map}
-use Rattle.std.specs.Prelude.{Option, Some, None, option_map, if◌then◌else◌, nat_le, nat_lt}
+use Rattle.std.specs.Prelude.{◌≡◌, ℕ, ◌-◌, Bool, false, ◌||◌, List, [], ◌∷◌, map}
+use Rattle.std.specs.Prelude.{Option, Some, None, option_map}
 use Rattle.std.specs.List.{flat_map}
 use Rattle.fb_bytes.specs.Bytes.{Bytes, is_same}
 use Rattle.fb_outside.specs.declared.File.{File}
@@ -10,9 +10,9 @@ use Rattle.file_names.specs.declared.Name.TheVariants.{Other}
 use Rattle.file_names.specs.Reading.{name_of}
 pub use Rattle.container_view.specs.declared.chaining.Link.{Link}
 use Rattle.container_view.specs.Folder.{LogFile, ManifestFile, Folder}
-use Rattle.container_view.specs.Chain.{LogLink, comes_first, links, chain}
+use Rattle.container_view.specs.Chain.{LogLink, links, chain}
 use Rattle.container_view.specs.Advertised.{chosen, is_advertised}
-use Rattle.container_view.specs.Bounds.{Bounds, is_given, advertised_bounds}
+use Rattle.container_view.specs.Bounds.{advertised_bounds}
 use Rattle.container_view.specs.Files.{Grammars, inside, folder_of}
 
 -- the names of a container's files in a store, as they stand in the container

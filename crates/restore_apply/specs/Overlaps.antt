@@ -1,10 +1,9 @@
 -- Ranges that overlap, in the order of their begin keys.
-use Rattle.std.specs.Prelude.{◌≡◌, ℕ, ◌+◌, Bool, true, false, not, ◌&&◌, ◌||◌, List, [], ◌∷◌}
+use Rattle.std.specs.Prelude.{ℕ, ◌+◌, Bool, true, false, not, ◌&&◌, ◌||◌, List, [], ◌∷◌}
 use Rattle.std.specs.Prelude.{Option, Some, None, if◌then◌else◌}
-use Rattle.std.specs.List.{AllByRecursion}
 use Rattle.fb_bytes.specs.Bytes.{is_below}
 use Rattle.fb_bytes.specs.declared.KeyRange.{KeyRange}
-use Rattle.fb_bytes.specs.Keys.{overlaps, is_backwards}
+use Rattle.fb_bytes.specs.Keys.{overlaps}
 use Rattle.restore_apply.specs.Loaded.{LoadedFile, range_of}
 pub use Rattle.restore_apply.specs.declared.overlaps.At.{At}
 

@@ -1,19 +1,13 @@
 -- Single choices among names.
-use Rattle.std.specs.Prelude.{◌≡◌, ℕ, ◌-◌, max, ◌==◌, Bool, false, ◌&&◌, ◌||◌, List, [], ◌∷◌, map}
+use Rattle.std.specs.Prelude.{ℕ, ◌-◌, max, ◌==◌, ◌&&◌, ◌||◌}
 use Rattle.std.specs.Prelude.{Option, Some, None, option_map, if◌then◌else◌, nat_le, nat_lt}
-use Rattle.std.specs.List.{flat_map}
-use Rattle.fb_bytes.specs.Bytes.{Bytes, is_same}
-use Rattle.fb_outside.specs.declared.File.{File}
+use Rattle.fb_bytes.specs.Bytes.{Bytes}
 use Rattle.file_names.specs.declared.Name.{Name}
 use Rattle.file_names.specs.declared.Name.TheVariants.{Range, Log, Manifest, Unreliable, Expired}
 use Rattle.file_names.specs.declared.Name.TheVariants.{Other}
-use Rattle.file_names.specs.Reading.{name_of}
-use Rattle.container_view.specs.declared.chaining.Link.{Link}
-use Rattle.container_view.specs.Folder.{LogFile, ManifestFile, Folder}
-use Rattle.container_view.specs.Chain.{LogLink, comes_first, links, chain}
-use Rattle.container_view.specs.Advertised.{chosen, is_advertised}
-use Rattle.container_view.specs.Bounds.{Bounds, is_given, advertised_bounds}
-use Rattle.container_view.specs.Files.{Grammars, inside, folder_of}
+use Rattle.container_view.specs.Folder.{ManifestFile}
+use Rattle.container_view.specs.Chain.{comes_first}
+use Rattle.container_view.specs.Bounds.{Bounds, is_given}
 
 -- the first of a name with an end and another one
 abbrev pub first_of : Bytes → ℕ → Option (Bytes × ℕ) → Option (Bytes × ℕ)

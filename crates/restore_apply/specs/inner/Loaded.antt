@@ -1,14 +1,9 @@
 -- What files say of a key before any mutation.
-use Rattle.std.specs.Prelude.{ℕ, ◌+◌, max, min, List, [], ◌∷◌, Option, Some, None, if◌then◌else◌}
+use Rattle.std.specs.Prelude.{List, Option}
 use Rattle.fb_bytes.specs.Bytes.{Bytes}
-use Rattle.fb_bytes.specs.declared.KeyRange.{KeyRange}
-use Rattle.fb_bytes.specs.Keys.{holds}
 use Rattle.fb_bytes.specs.Options.{◌>>=◌}
 use Rattle.fb_bytes.specs.Pairs.{value_of}
-use Rattle.mutations.specs.Replay.{replayed}
 use Rattle.restore_apply.specs.declared.loaded.LoadedFile.{LoadedFile}
-use Rattle.restore_apply.specs.declared.loaded.LoadedLink.{LoadedLink}
-use Rattle.restore_apply.specs.declared.loaded.Loaded.{Loaded}
 use Rattle.restore_apply.specs.Loaded.{file_with}
 
 -- the value of a key in the file whose range holds it

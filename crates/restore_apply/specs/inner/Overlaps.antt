@@ -1,11 +1,10 @@
 -- Ranges in order, and the last that was seen.
-use Rattle.std.specs.Prelude.{◌≡◌, ℕ, ◌+◌, Bool, true, false, not, ◌&&◌, ◌||◌, List, [], ◌∷◌}
+use Rattle.std.specs.Prelude.{◌≡◌, Bool, false, List, [], ◌∷◌}
 use Rattle.std.specs.Prelude.{Option, Some, None, if◌then◌else◌}
 use Rattle.std.specs.List.{AllByRecursion}
 use Rattle.fb_bytes.specs.Bytes.{is_below}
 use Rattle.fb_bytes.specs.declared.KeyRange.{KeyRange}
 use Rattle.fb_bytes.specs.Keys.{overlaps, is_backwards}
-use Rattle.restore_apply.specs.Loaded.{LoadedFile, range_of}
 use Rattle.restore_apply.specs.declared.overlaps.At.{At}
 
 -- each begins no earlier than those before it

@@ -1,8 +1,6 @@
 -- Single steps of a list of futures.
-use Rattle.std.specs.Prelude.{ℕ, ◌+◌, Bool, true, false, not, ◌&&◌, ◌||◌, List, [], ◌∷◌, ◌++◌, map}
-use Rattle.std.specs.Prelude.{max, ◌==◌, if◌then◌else◌}
-use Rattle.std.specs.List.{filter}
-use Rattle.task_kinds.specs.Tasks.{SeenTask}
+use Rattle.std.specs.Prelude.{ℕ, ◌+◌, List, [], ◌∷◌, map}
+use Rattle.std.specs.Prelude.{◌==◌, if◌then◌else◌}
 use Rattle.task_futures.specs.declared.part.Part.{Part}
 use Rattle.task_futures.specs.Futures.{SeenFuture, left}
 
