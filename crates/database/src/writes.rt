@@ -99,7 +99,11 @@ fn clipped_writes(ops: &[TxOp], ranges: &Ranges) -> Option<u128>
 
 /// Applies an entry to a store, and puts it at the end of the history that the store holds. Without
 /// memory the history is as it was, and the store holds it.
-pub fn put_entry(history: &mut Seq<Entry>, store: &mut Store, entry: Entry) -> Result<(), AllocError>
+pub fn put_entry(
+    history: &mut Seq<Entry>,
+    store: &mut Store,
+    entry: Entry,
+) -> Result<(), AllocError>
     requires past { AllByRecursion (λ (earlier : Entry). earlier.version < entry.version)
         history.old }
     requires oldest { store.old.oldest < entry.version }
