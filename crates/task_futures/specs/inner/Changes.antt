@@ -32,6 +32,7 @@ and_link open_ number link f =
       joins = if open_ && f.number == number then f.joins ++ link ∷ [] else f.joins;
     }
 
+-- all but the last
 abbrev pub front : List Part → List Part
 front links = take (length links - 1) links
 
@@ -88,11 +89,12 @@ nearest_onto bound o (p ∷ ps) = nearest_onto bound (nearer bound o p.join) ps
 abbrev pub nearest : ℕ → List Part → Option ℕ
 nearest bound ps = nearest_onto bound None ps
 
--- no block of these futures falls
+-- one of these is of the future with this number
 abbrev pub is_number_of : ℕ → List Part → Bool
 is_number_of number [] = false
 is_number_of number (p ∷ ps) = p.join == number || is_number_of number ps
 
+-- none of these futures has a part
 abbrev pub AreSpared : List Part → List SeenFuture → Type 0
 AreSpared ps [] = Unit {0}
 AreSpared ps (f ∷ fs) = (is_number_of f.number ps ≡ false) × AreSpared ps fs
