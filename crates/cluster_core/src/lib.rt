@@ -3,13 +3,13 @@
 
 mod change;
 mod clients;
-mod commands;
 mod event;
 mod job;
 mod job_state;
 mod laws;
 mod logging;
 mod plan;
+mod planning;
 mod refusal;
 #[cfg(test)]
 mod tests;
