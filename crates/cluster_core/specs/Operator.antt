@@ -5,7 +5,6 @@ use Rattle.workload_text.specs.declared.Settings.{Settings}
 use Rattle.workload_text.specs.declared.Command.{Command}
 use Rattle.workload_text.specs.declared.Command.TheVariants as commands
 use Rattle.cluster_core.specs.declared.event.Answer.TheVariants.{Nothing}
-use Rattle.cluster_core.specs.declared.event.Answer.TheVariants.{State}
 use Rattle.cluster_core.specs.Jobs.{newest}
 use Rattle.cluster_core.specs.State as machine
 use Rattle.cluster_core.specs.Moves.{Luck, Moved, moved}

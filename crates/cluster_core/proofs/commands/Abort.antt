@@ -15,7 +15,6 @@ use Rattle.std.specs.Prelude.{◌≡◌, ℕ, List, Some, slice_get, refl}
 use Rattle.cluster_core.specs.Jobs.{Job, Found}
 use Rattle.cluster_core.specs.State.{State, history_on, with_job}
 use Rattle.cluster_core.specs.Sound.{IsJobSound, Sound}
-use Rattle.cluster_core.proofs.Named.{named}
 use Rattle.cluster_core.proofs.Frames.{sound_gone, sound_changed}
 use Rattle.cluster_core.proofs.Touching.{Touches}
 use Rattle.cluster_core.proofs.commands.Puts.{next_jobs}

@@ -83,8 +83,7 @@ use Rattle.cluster_core.proofs.Grown.{job_grown}
 use Rattle.cluster_core.proofs.Puts.{IsFresh}
 use Rattle.cluster_core.proofs.Frames.{sound_gone}
 use Rattle.cluster_core.proofs.commands.Jobs.{same_job}
-use Rattle.cluster_core.proofs.commands.Dump.{forward}
-use Rattle.cluster_core.proofs.Touching.{Touches, same, gone}
+use Rattle.cluster_core.proofs.Touching.{Touches, gone}
 use Rattle.cluster_core.proofs.commands.Puts.{putting_touches, IsOrder, putting_keeps, nothing_listed, later_tickets, same_time}
 
 pub cut_sound : (block now tickets : ℕ) (history : List Entry) (job : Job) → IsJobSound block now tickets history job → job.hand.next ≤ now → IsJobSound block now tickets history (record job { hand = cut_to job.hand now })
@@ -158,42 +157,6 @@ chunk_batches w side place job logs history from until begin end batches at s r 
     ∙ ap (λ (n : ℕ). logged (history_on job.side w) job.hand.map.ranges n until) (sym b)
     ∙ ap (logged (history_on job.side w) job.hand.map.ranges begin) (sym e)
 
-pub chunk_writable : (p : Workload) (w : State) (place : ℕ) (job : Job) (block begin end : ℕ) (batches : List Batch) → Sound p w → slice_get w.jobs place ≡ Some job → job.hand.aborted ≡ false → block ≡ p.settings.block → begin ≡ job.hand.next → batches ≡ logged (history_on job.side w) job.hand.map.ranges begin end → logs.IsWritable block begin end batches
-chunk_writable p w place job block begin end batches h at r b n e =
-    let j = h.jobs.each place job at in
-    let listed : is_block p.settings.block ≡ true = p.settings.block_listed in
-    let begun : job.hand.begin ≤ begin = (let q = j.begun in omega arith) in
-    subst (λ (k : ℕ). logs.IsWritable k begin end batches) (sym b)
-    (subst (λ (bs : List Batch). logs.IsWritable p.settings.block begin end bs) (sym e)
-    (cut_writable known p.settings.block begin end job.hand.begin (history_on job.side w) job.hand.map.ranges listed (h.databases.histories job.side).rising begun (j.logged r)))
-
-pub chunk_text : (p : Workload) (w : State) (job : Job) (block begin end : ℕ) (batches : List Batch) → block ≡ p.settings.block → begin ≡ job.hand.next → end ≡ w.time + 1 → batches ≡ logged (history_on job.side w) job.hand.map.ranges begin end → log_text block batches ≡ cut_bytes p.settings w job
-chunk_text p w job block begin end batches b n t e =
-    ap (λ (k : ℕ). log_text k batches) b
-    ∙ ap (log_text p.settings.block) (e ∙ ap (λ (k : ℕ). logged (history_on job.side w) job.hand.map.ranges k end) n ∙ ap (λ (k : ℕ). logged (history_on job.side w) job.hand.map.ranges job.hand.next k) t)
-
-pub cut_refused : (s : Settings) (w : State) (place : ℕ) (found job : Job) (version next : ℕ) → found ≡ slice_index_or w.jobs place found → next ≡ found.hand.next → version < next → version ≡ w.time → slice_get w.jobs place ≡ Some job → (luck : Luck) → cut_log s w luck (record { place = place; job = job }) ≡ refuses (NothingNew version) w
-cut_refused s w place found job version next e n l t at luck =
-    let same : next ≡ job.hand.next = n ∙ ap (λ (x : Job). x.hand.next) (same_job w.jobs place job found at e) in
-    ap (λ (b : Bool). cond b (refuses (NothingNew w.time) w) (cut_put s w luck (record { place = place; job = job }))) (lt-ltb w.time job.hand.next (omega arith))
-    ∙ ap (λ (k : ℕ). refuses (NothingNew k) w) (sym t)
-
-abbrev pub cut_filing : Settings → State → ℕ → Job → Filing
-cut_filing s w place job = record { place = place; change = changes.Cut w.time; whole = whole_name job.container (cut_name s w job); bytes = cut_bytes s w job }
-
-pub cut_planned : (s : Settings) (w : State) (place : ℕ) (found job : Job) (version next : ℕ) (filing : Filing) → found ≡ slice_index_or w.jobs place found → next ≡ found.hand.next → next ≤ version → version ≡ w.time → filing ≡ cut_filing s w place found → slice_get w.jobs place ≡ Some job → (luck : Luck) → cut_log s w luck (record { place = place; job = job }) ≡ planned s w luck (Put filing)
-cut_planned s w place found job version next filing e n l t f at luck =
-    let same : next ≡ job.hand.next = n ∙ ap (λ (x : Job). x.hand.next) (same_job w.jobs place job found at e) in
-    ap (λ (b : Bool). cond b (refuses (NothingNew w.time) w) (cut_put s w luck (record { place = place; job = job }))) (le-ltb w.time job.hand.next (omega arith))
-    ∙ sym (ap (files w (cut_filing s w place job) luck) at)
-    ∙ ap (λ (x : Job). planned s w luck (Put (cut_filing s w place x))) (sym (same_job w.jobs place job found at e))
-    ∙ ap (λ (x : Filing). planned s w luck (Put x)) (sym f)
-
-pub cut_safe : (s : Settings) (w : State) (place : ℕ) (found job : Job) (filing : Filing) → found ≡ slice_index_or w.jobs place found → slice_get w.jobs place ≡ Some job → filing ≡ cut_filing s w place found → w.tickets ≤ most_version → w.time ≤ most_version → IsSafe w (Put filing)
-cut_safe s w place found job filing e at f t b =
-    subst (λ (x : Filing). IsSafe w (Put x)) (sym f)
-    (record { tickets = t; can = omega arith; job = job; at = at })
-
 all_append : {X : Type 0} (P : X → Type 0) (xs ys : List X) → AllByRecursion P xs → AllByRecursion P ys → AllByRecursion P (xs ++ ys)
 all_append P [] ys a b = b
 all_append P (x ∷ xs) ys a b = (a.0, all_append P xs ys a.1 b)
@@ -259,6 +222,42 @@ pub cut_writable : (k : Known) (block begin end low : ℕ) (history : List Entry
 cut_writable k block begin end low history job b r l a =
     let log = k.logged history job begin end r in
     record { size_listed = b; logged = logged_list begin end (logged history job begin end) (within_parts begin end (logged history job begin end) log.within) log.rising (batches_spelled history job low begin end l a) }
+
+pub chunk_writable : (p : Workload) (w : State) (place : ℕ) (job : Job) (block begin end : ℕ) (batches : List Batch) → Sound p w → slice_get w.jobs place ≡ Some job → job.hand.aborted ≡ false → block ≡ p.settings.block → begin ≡ job.hand.next → batches ≡ logged (history_on job.side w) job.hand.map.ranges begin end → logs.IsWritable block begin end batches
+chunk_writable p w place job block begin end batches h at r b n e =
+    let j = h.jobs.each place job at in
+    let listed : is_block p.settings.block ≡ true = p.settings.block_listed in
+    let begun : job.hand.begin ≤ begin = (let q = j.begun in omega arith) in
+    subst (λ (k : ℕ). logs.IsWritable k begin end batches) (sym b)
+    (subst (λ (bs : List Batch). logs.IsWritable p.settings.block begin end bs) (sym e)
+    (cut_writable known p.settings.block begin end job.hand.begin (history_on job.side w) job.hand.map.ranges listed (h.databases.histories job.side).rising begun (j.logged r)))
+
+pub chunk_text : (p : Workload) (w : State) (job : Job) (block begin end : ℕ) (batches : List Batch) → block ≡ p.settings.block → begin ≡ job.hand.next → end ≡ w.time + 1 → batches ≡ logged (history_on job.side w) job.hand.map.ranges begin end → log_text block batches ≡ cut_bytes p.settings w job
+chunk_text p w job block begin end batches b n t e =
+    ap (λ (k : ℕ). log_text k batches) b
+    ∙ ap (log_text p.settings.block) (e ∙ ap (λ (k : ℕ). logged (history_on job.side w) job.hand.map.ranges k end) n ∙ ap (λ (k : ℕ). logged (history_on job.side w) job.hand.map.ranges job.hand.next k) t)
+
+pub cut_refused : (s : Settings) (w : State) (place : ℕ) (found job : Job) (version next : ℕ) → found ≡ slice_index_or w.jobs place found → next ≡ found.hand.next → version < next → version ≡ w.time → slice_get w.jobs place ≡ Some job → (luck : Luck) → cut_log s w luck (record { place = place; job = job }) ≡ refuses (NothingNew version) w
+cut_refused s w place found job version next e n l t at luck =
+    let same : next ≡ job.hand.next = n ∙ ap (λ (x : Job). x.hand.next) (same_job w.jobs place job found at e) in
+    ap (λ (b : Bool). cond b (refuses (NothingNew w.time) w) (cut_put s w luck (record { place = place; job = job }))) (lt-ltb w.time job.hand.next (omega arith))
+    ∙ ap (λ (k : ℕ). refuses (NothingNew k) w) (sym t)
+
+abbrev pub cut_filing : Settings → State → ℕ → Job → Filing
+cut_filing s w place job = record { place = place; change = changes.Cut w.time; whole = whole_name job.container (cut_name s w job); bytes = cut_bytes s w job }
+
+pub cut_planned : (s : Settings) (w : State) (place : ℕ) (found job : Job) (version next : ℕ) (filing : Filing) → found ≡ slice_index_or w.jobs place found → next ≡ found.hand.next → next ≤ version → version ≡ w.time → filing ≡ cut_filing s w place found → slice_get w.jobs place ≡ Some job → (luck : Luck) → cut_log s w luck (record { place = place; job = job }) ≡ planned s w luck (Put filing)
+cut_planned s w place found job version next filing e n l t f at luck =
+    let same : next ≡ job.hand.next = n ∙ ap (λ (x : Job). x.hand.next) (same_job w.jobs place job found at e) in
+    ap (λ (b : Bool). cond b (refuses (NothingNew w.time) w) (cut_put s w luck (record { place = place; job = job }))) (le-ltb w.time job.hand.next (omega arith))
+    ∙ sym (ap (files w (cut_filing s w place job) luck) at)
+    ∙ ap (λ (x : Job). planned s w luck (Put (cut_filing s w place x))) (sym (same_job w.jobs place job found at e))
+    ∙ ap (λ (x : Filing). planned s w luck (Put x)) (sym f)
+
+pub cut_safe : (s : Settings) (w : State) (place : ℕ) (found job : Job) (filing : Filing) → found ≡ slice_index_or w.jobs place found → slice_get w.jobs place ≡ Some job → filing ≡ cut_filing s w place found → w.tickets ≤ most_version → w.time ≤ most_version → IsSafe w (Put filing)
+cut_safe s w place found job filing e at f t b =
+    subst (λ (x : Filing). IsSafe w (Put x)) (sym f)
+    (record { tickets = t; can = omega arith; job = job; at = at })
 
 pub cut_honest : (k : Known) (block now begin low : ℕ) (history : List Entry) (job : Job) (name : Bytes) → is_block block ≡ true → now ≤ most_version → IsRising history → low ≤ begin → AreLoggable job.hand.map.ranges low history → IsHonestLog (source_of block now history job) (log_file file_grammars name (log_text block (logged history job.hand.map.ranges begin (now + 1))) begin (now + 1) block)
 cut_honest k block now begin low history job name b n r l a = record {

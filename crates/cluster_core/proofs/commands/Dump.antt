@@ -24,7 +24,6 @@ use Rattle.std.proofs.lemmas.Bool.{and_parts}
 use Rattle.fb_bytes.specs.Blocks.{is_block}
 use Rattle.fb_bytes.specs.declared.Pair.{Pair}
 use Rattle.block_frame.specs.Profiles.{key_limit_of}
-use Rattle.mutations.specs.Histories.{logged}
 use Rattle.range_files.specs.Writing.{range_text, PairFits}
 use Rattle.range_files.specs.Writing as ranges
 use Rattle.workload_text.specs.Commands.{IsPiece}
@@ -81,7 +80,7 @@ use Rattle.cluster_core.specs.State.{State, history_on}
 use Rattle.cluster_core.specs.Sound.{Sound}
 use Rattle.cluster_core.specs.World.{Seen}
 use Rattle.cluster_core.proofs.Relied.{known}
-use Rattle.cluster_core.proofs.Touching.{Touches, same, gone}
+use Rattle.cluster_core.proofs.Touching.{Touches, gone}
 use Rattle.cluster_core.proofs.commands.Puts.{putting_touches, IsOrder, putting_keeps, nothing_listed, filing_of}
 use Rattle.cluster_core.proofs.commands.Jobs.{some_is}
 
@@ -98,6 +97,13 @@ name_differs : (block now tickets : ℕ) (name : Bytes) (snapshot version block'
 name_differs block now tickets name snapshot version block' e [] h = tt
 name_differs block now tickets name snapshot version block' e (n ∷ noted) h =
     ((λ s. let same : h.0.ticket ≡ tickets = cc (sym h.0.name ∙ ap name_of s ∙ e) in let d = h.0.drawn in absurd (omega arith)), name_differs block now tickets name snapshot version block' e noted h.1)
+
+pub forward : (range : KeyRange) → is_backwards range ≡ false → is_below range.begin range.end ≡ true
+forward range h = go (is_below range.begin range.end) h
+  where
+    go : (b : Bool) → not b ≡ false → b ≡ true
+    go true e = refl
+    go false e = cc
 
 -- the piece holds no key of the noted ones, and is in the ranges
 pub record IsFree (job : List KeyRange) (noted : List Noted) (piece : KeyRange) : Type 0 where
@@ -141,13 +147,6 @@ dumped_sound k block now tickets history job piece file snapshot h f v n =
     weaker : {P Q : Noted → Type 0} → ((x : Noted) → P x → Q x) → (xs : List Noted) → AllByRecursion P xs → AllByRecursion Q xs
     weaker f [] a = tt
     weaker f (x ∷ xs) a = (f x a.0, weaker f xs a.1)
-
-pub forward : (range : KeyRange) → is_backwards range ≡ false → is_below range.begin range.end ≡ true
-forward range h = go (is_below range.begin range.end) h
-  where
-    go : (b : Bool) → not b ≡ false → b ≡ true
-    go true e = refl
-    go false e = cc
 
 not_true : (b : Bool) → not b ≡ true → b ≡ false
 not_true true e = cc

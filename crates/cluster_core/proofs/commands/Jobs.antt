@@ -35,7 +35,7 @@ use Rattle.cluster_core.specs.Moves.{Moved}
 use Rattle.cluster_core.specs.commands.Shared.{refuses, on_running, on_found}
 use Rattle.cluster_core.specs.Sound.{Sound}
 use Rattle.cluster_core.proofs.Frames.{sound_gone}
-use Rattle.cluster_core.proofs.Touching.{Touches, same, gone}
+use Rattle.cluster_core.proofs.Touching.{Touches, gone}
 
 pub same_job : (jobs : List Job) (place : ℕ) (job found : Job) → slice_get jobs place ≡ Some job → found ≡ slice_index_or jobs place found → found ≡ job
 same_job jobs place job found at e = e ∙ get_or_from_slice_get jobs place job found at
@@ -52,6 +52,25 @@ running_touches pace w f found k = go found.job.hand.aborted
     go : (b : Bool) → Touches pace w (cond b (refuses (WrongState (state_of_job found.job)) w) (f found))
     go true = gone pace w _
     go false = k
+
+-- the job that is found stands at its place
+found_at : (from : ℕ) (tag : Bytes) (jobs : List Job) (found : Found) → newest_from from tag jobs ≡ Some found → (n : ℕ) × (found.place ≡ from + n) × (slice_get jobs n ≡ Some found.job)
+found_at from tag [] found e = cc
+found_at from tag (job ∷ jobs) found e = go (newest_from (from + 1) tag jobs) refl e (found_at (from + 1) tag jobs)
+  where
+    here : (b : Bool) → cond b (Some (record { place = from; job = job })) None ≡ Some found → (n : ℕ) × (found.place ≡ from + n) × (slice_get (job ∷ jobs) n ≡ Some found.job)
+    here true q = let same : record { place = from; job = job } ≡ found = some_is (record { place = from; job = job }) found q in (0, ap (λ (x : Found). x.place) (sym same) ∙ omega arith, ap (λ (x : Found). Some x.job) same)
+      where
+        some_is : (a b : Found) → Some a ≡ Some b → a ≡ b
+        some_is a b r = cc
+    here false q = cc
+
+    go : (o : Option Found) → newest_from (from + 1) tag jobs ≡ o → o or_else (if is_same job.tag tag then Some (record { place = from; job = job }) else None) ≡ Some found → ((f : Found) → newest_from (from + 1) tag jobs ≡ Some f → (n : ℕ) × (f.place ≡ from + 1 + n) × (slice_get jobs n ≡ Some f.job)) → (n : ℕ) × (found.place ≡ from + n) × (slice_get (job ∷ jobs) n ≡ Some found.job)
+    go (Some f) q r rest = let same : f ≡ found = cc in let t = rest found (q ∙ ap (λ (x : Found). Some x) same) in (suc t.0, (let u = t.1 in omega arith), t.2)
+    go None q r rest = here (is_same job.tag tag) r
+
+pub newest_at : (tag : Bytes) (jobs : List Job) (found : Found) → newest tag jobs ≡ Some found → slice_get jobs found.place ≡ Some found.job
+newest_at tag jobs found e = let t = found_at 0 tag jobs found e in ap (slice_get jobs) (t.1 ∙ omega arith) ∙ t.2
 
 pub job_touches : (pace : ℕ) (w : State) (tag : Bytes) (f : Found → Moved) (o : Option Found) → newest tag w.jobs ≡ o → ((found : Found) → slice_get w.jobs found.place ≡ Some found.job → Touches pace w (f found)) → Touches pace w (on_found w tag f o)
 job_touches pace w tag f None e k = gone pace w _
@@ -89,25 +108,6 @@ found_is tag sliced items jobs place job e s i g =
 -- the newest job with the tag that hasn't ended
 pub running_at : (tag : Bytes) (w : State) (place : ℕ) (job : Job) (hand : BackupJob) (aborted : Bool) → Some (record { place = place; job = job }) ≡ newest tag w.jobs → hand ≡ job.hand → aborted ≡ hand.aborted → aborted ≡ false → IsRunning w tag (At place)
 running_at tag w place job hand aborted e h a f = (job, newest_at tag w.jobs (record { place = place; job = job }) (sym e), sym (a ∙ ap (λ (x : BackupJob). x.aborted) h) ∙ f, sym e)
-
--- the job that is found stands at its place
-found_at : (from : ℕ) (tag : Bytes) (jobs : List Job) (found : Found) → newest_from from tag jobs ≡ Some found → (n : ℕ) × (found.place ≡ from + n) × (slice_get jobs n ≡ Some found.job)
-found_at from tag [] found e = cc
-found_at from tag (job ∷ jobs) found e = go (newest_from (from + 1) tag jobs) refl e (found_at (from + 1) tag jobs)
-  where
-    here : (b : Bool) → cond b (Some (record { place = from; job = job })) None ≡ Some found → (n : ℕ) × (found.place ≡ from + n) × (slice_get (job ∷ jobs) n ≡ Some found.job)
-    here true q = let same : record { place = from; job = job } ≡ found = some_is (record { place = from; job = job }) found q in (0, ap (λ (x : Found). x.place) (sym same) ∙ omega arith, ap (λ (x : Found). Some x.job) same)
-      where
-        some_is : (a b : Found) → Some a ≡ Some b → a ≡ b
-        some_is a b r = cc
-    here false q = cc
-
-    go : (o : Option Found) → newest_from (from + 1) tag jobs ≡ o → o or_else (if is_same job.tag tag then Some (record { place = from; job = job }) else None) ≡ Some found → ((f : Found) → newest_from (from + 1) tag jobs ≡ Some f → (n : ℕ) × (f.place ≡ from + 1 + n) × (slice_get jobs n ≡ Some f.job)) → (n : ℕ) × (found.place ≡ from + n) × (slice_get (job ∷ jobs) n ≡ Some found.job)
-    go (Some f) q r rest = let same : f ≡ found = cc in let t = rest found (q ∙ ap (λ (x : Found). Some x) same) in (suc t.0, (let u = t.1 in omega arith), t.2)
-    go None q r rest = here (is_same job.tag tag) r
-
-pub newest_at : (tag : Bytes) (jobs : List Job) (found : Found) → newest tag jobs ≡ Some found → slice_get jobs found.place ≡ Some found.job
-newest_at tag jobs found e = let t = found_at 0 tag jobs found e in ap (slice_get jobs) (t.1 ∙ omega arith) ∙ t.2
 
 running_keeps : (p : Workload) (w : State) (f : Found → Moved) (found : Found) → Sound p w → (found.job.hand.aborted ≡ false → Sound p (f found).state) → Sound p (on_running w f found).state
 running_keeps p w f found h next = go found.job.hand.aborted refl

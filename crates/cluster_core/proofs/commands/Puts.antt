@@ -40,16 +40,15 @@ use Rattle.cluster_core.specs.declared.change.Change.{Change}
 use Rattle.cluster_core.specs.declared.plan.Filing.{Filing}
 use Rattle.cluster_core.specs.Jobs.{Job}
 use Rattle.cluster_core.specs.Moves.{Luck}
-use Rattle.cluster_core.specs.inner.Plans.{files}
 use Rattle.cluster_core.specs.State.{State, history_on}
 use Rattle.cluster_core.specs.Sound.{Sound}
 use Rattle.cluster_core.proofs.Touching.{Touches, same}
 
-record IsNextJob (old new : Job) : Type 0 where
-  tag : new.tag ≡ old.tag
-  side : new.side ≡ old.side
-  container : new.container ≡ old.container
-  ranges : new.hand.map.ranges ≡ old.hand.map.ranges
+pub record IsNextJob (old new : Job) : Type 0 where
+  pub tag : new.tag ≡ old.tag
+  pub side : new.side ≡ old.side
+  pub container : new.container ≡ old.container
+  pub ranges : new.hand.map.ranges ≡ old.hand.map.ranges
 
 pub next_jobs : (w : State) (place : ℕ) (old new : Job) → slice_get w.jobs place ≡ Some old → IsNextJob old new → IsJobChanged w.jobs (with_job place new w).jobs
 next_jobs w place old new at n = record { place = place; before = old; after = new; found = at; tag = n.tag; side = n.side; container = n.container; ranges = n.ranges; is = refl }

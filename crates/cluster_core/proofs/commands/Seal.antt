@@ -18,7 +18,6 @@ use Rattle.std.specs.Prelude.{Err, nat_lt, ◌≡◌, ℕ, ◌+◌, ◌<◌, ◌
 use Rattle.std.proofs.Common.{ap, sym, ◌∙◌, arith, subst, inl, inr}
 use Rattle.std.proofs.lemmas.Bool.{le-ltb}
 use Rattle.fb_bytes.specs.Bytes.{Bytes}
-use Rattle.mutations.specs.Histories.{logged}
 use Rattle.manifests.specs.declared.Manifest.{Manifest}
 use Rattle.manifests.specs.Grammar.{IsWhole, name_for, manifest_text}
 use Rattle.container_view.specs.Files.{whole_name}
@@ -48,7 +47,6 @@ use Rattle.std.specs.Prelude.{◌≡◌, ℕ, ◌+◌, Bool, true, false, cond, 
 use Rattle.std.specs.Prelude.{◌≤◌, ◌⊎◌}
 use Rattle.std.proofs.Common.{subst, arith, inl, inr}
 use Rattle.fb_bytes.specs.Options.{◌>>=◌}
-use Rattle.client_core.specs.Ends.{version_of}
 use Rattle.cluster_core.specs.declared.event.StepFault.TheVariants.{NoMemory}
 use Rattle.cluster_core.specs.Jobs.{Job, Found}
 use Rattle.cluster_core.specs.State.{State, history_on}
@@ -61,7 +59,7 @@ use Rattle.std.specs.Prelude.{◌≡◌, ℕ, ◌+◌, ◌≤◌, Bool, true, fa
 use Rattle.std.proofs.lemmas.Bool.{ltb-false}
 use Rattle.fb_outside.specs.declared.File.{File}
 use Rattle.file_names.specs.declared.Name.{Name}
-use Rattle.file_names.specs.declared.Name.TheVariants.{Manifest}
+use Rattle.file_names.specs.declared.Name.TheVariants as names
 use Rattle.manifests.specs.Grammar.{name_for, manifest_text}
 use Rattle.container_view.specs.Contents.{file_grammars}
 use Rattle.container_view.specs.Honest.{IsHonestFile, listed_by}
@@ -114,6 +112,36 @@ pub record IsSealable (m : Manifest) : Type 0 where
   pub order : m.begin ≤ m.end
   pub end : m.end ≤ most_version
 
+both_ways : (a b : Bool) → (a ≡ true → b ≡ true) → (b ≡ true → a ≡ true) → a ≡ b
+both_ways true b f g = sym (f refl)
+both_ways false true f g = g refl
+both_ways false false f g = refl
+
+not_false : (b : Bool) → not b ≡ false → b ≡ true
+not_false true e = refl
+not_false false e = cc
+
+-- without a gap they have the keys of the ranges
+pub tiles : (k : Known) (job : List KeyRange) (noted : List Noted) → AreSeparate job → ArePieces (pieces_of noted) → ((key : Bytes) → in_ranges (pieces_of noted) key ≡ true → in_ranges job key ≡ true) → gap_in job (pieces_of noted) ≡ None → (key : Bytes) → in_ranges (pieces_of noted) key ≡ in_ranges job key
+tiles k job noted s p inside g key =
+    let none : IsFirstOrNone (in_ranges job) (λ key. not (in_ranges (pieces_of noted) key)) None = subst (IsFirstOrNone (in_ranges job) (λ key. not (in_ranges (pieces_of noted) key))) g (k.piece.gap job (pieces_of noted) s p) in
+    both_ways (in_ranges (pieces_of noted) key) (in_ranges job key) (inside key) (λ h. not_false (in_ranges (pieces_of noted) key) (none key h))
+
+has_begin : (range : KeyRange) (job : List KeyRange) → is_backwards range ≡ false → in_ranges (range ∷ job) range.begin ≡ true
+has_begin range job h = rw (below_itself range.begin, not_false (is_below range.begin range.end) h) refl
+
+-- so there are some
+pub some_noted : (job : List KeyRange) (noted : List Noted) → 0 < length job → AreSeparate job → ((key : Bytes) → in_ranges (pieces_of noted) key ≡ in_ranges job key) → 0 < length noted
+some_noted [] noted l s t = absurd (omega arith)
+some_noted (range ∷ job) [] l s t = absurd (let e = t range.begin ∙ has_begin range job s.0 in cc)
+some_noted (range ∷ job) (n ∷ noted) l s t = omega arith
+
+version_noted : (block now tickets : ℕ) (noted : Noted) → IsNoted block now tickets noted → version_of noted.file.name ≡ Some noted.file.version
+version_noted block now tickets noted h = ap version_in h.name
+
+pub sealed_whole : (k : Known) (block now tickets : ℕ) (history : List Entry) (job : Job) → IsJobSound block now tickets history job → 0 < length job.hand.map.noted → IsWhole (manifest_of job.hand.map.noted)
+sealed_whole k block now tickets history job h some = k.manifests.whole job.hand.map.noted some (All-weaker (IsNoted block now tickets) (λ n. version_of n.file.name ≡ Some n.file.version) job.hand.map.noted (version_noted block now tickets) h.noted) h.distinct
+
 pub sealable : (p : Workload) (w : State) (place : ℕ) (job : Job) (m : Manifest) → Sound p w → slice_get w.jobs place ≡ Some job → gap job.hand.map ≡ None → m ≡ manifest_of job.hand.map.noted → IsSealable m
 sealable p w place job m h at g e =
     let j = h.jobs.each place job at in
@@ -163,8 +191,43 @@ seal_touches pace w found luck None at = go (nat_lt most_bytes (snapshot_bytes f
     go true = same pace w _
     go false = putting_touches pace w found.place found.job (with_seal found.job) (seal_name w found.job) (manifest_text (manifest_of found.job.hand.map.noted)) luck at (record { tag = refl; side = refl; container = refl; ranges = refl })
 
-fresh_manifest : (name : Bytes) (tickets begin end bytes ticket : ℕ) → name_of name ≡ Manifest begin end bytes ticket → IsFresh tickets name
+fresh_manifest : (name : Bytes) (tickets begin end bytes ticket : ℕ) → name_of name ≡ names.Manifest begin end bytes ticket → IsFresh tickets name
 fresh_manifest name tickets begin end bytes ticket n s v t b e d = let q = sym n ∙ e in cc
+
+is_read : (k : Known) (block now tickets : ℕ) (container : Bytes) (files : List File) (folder : Folder) (noted : Noted) → AreFiles files → folder_in file_grammars container files ≡ Some folder → IsNoted block now tickets noted → IsThere block container files noted → IsRead folder.ranges noted
+is_read k block now tickets container files folder noted o f n h = (
+  h.pairs,
+  k.files.found container (whole_name container noted.file.name) noted.file.name h.bytes files folder n.snapshot noted.file.version n.ticket block o (k.files.whole_in container noted.file.name) h.file n.name f
+      ∙ ap (λ c. c >>= λ body. Some (record { version = noted.file.version; range = body.range; pairs = body.pairs })) h.content,
+)
+
+all_read : (k : Known) (block now tickets : ℕ) (container : Bytes) (files : List File) (folder : Folder) (noted : List Noted) → AreFiles files → folder_in file_grammars container files ≡ Some folder → AllByRecursion (IsNoted block now tickets) noted → AllByRecursion (IsThere block container files) noted → AllByRecursion (IsRead folder.ranges) noted
+all_read k block now tickets container files folder [] o f n h = tt
+all_read k block now tickets container files folder (x ∷ xs) o f n h = (is_read k block now tickets container files folder x o f n.0 h.0, all_read k block now tickets container files folder xs o f n.1 h.1)
+
+pub seal_content : (k : Known) (job : Job) (ticket : ℕ) → IsWhole (manifest_of job.hand.map.noted) → (manifest_of job.hand.map.noted).bytes ≤ 9223372036854775807 → file_grammars.manifest (name_for (manifest_of job.hand.map.noted) ticket) (manifest_text (manifest_of job.hand.map.noted)) ≡ Some (manifest_of job.hand.map.noted).files
+seal_content k job ticket w fits = k.contents.manifest (name_for (manifest_of job.hand.map.noted) ticket) (manifest_text (manifest_of job.hand.map.noted)) (manifest_of job.hand.map.noted) (k.manifests.written (manifest_of job.hand.map.noted) ticket w fits)
+
+pub seal_honest : (k : Known) (block now tickets ticket : ℕ) (history : List Entry) (files : List File) (job : Job) (name : Bytes) → AreFiles files → IsJobSound block now tickets history job → (st : IsStored block now tickets history files job) → gap job.hand.map ≡ None → (manifest_of job.hand.map.noted).bytes ≤ 9223372036854775807
+    → IsHonestManifest (source_of block now history job) st.honest.folder.ranges (manifest_file file_grammars name (manifest_text (manifest_of job.hand.map.noted)) (name_for (manifest_of job.hand.map.noted) ticket) (manifest_of job.hand.map.noted).begin (manifest_of job.hand.map.noted).end)
+seal_honest k block now tickets ticket history files job name o h st g fits =
+    let tiled = tiles k job.hand.map.ranges job.hand.map.noted h.ranges.separate h.pieces h.inside g in
+    let some = some_noted job.hand.map.ranges job.hand.map.noted h.some h.ranges.separate tiled in
+    k.manifests.honest (source_of block now history job) st.honest.folder.ranges job.hand.map.noted _ some
+    (all_read k block now tickets job.container files st.honest.folder job.hand.map.noted o st.honest.decoded h.noted st.there)
+    h.pieces tiled refl refl (seal_content k job ticket (sealed_whole k block now tickets history job h some) fits)
+
+drawn_noted : (block now tickets : ℕ) (noted : Noted) → IsNoted block now tickets noted → IsDrawn tickets noted.file.name
+drawn_noted block now tickets noted h = record { snapshot = h.snapshot; version = noted.file.version; ticket = h.ticket; block = block; read = h.name; drawn = h.drawn }
+
+-- it lists files with drawn tickets
+pub seal_lists : (k : Known) (block now tickets ticket : ℕ) (history : List Entry) (job : Job) → IsJobSound block now tickets history job → 0 < length job.hand.map.noted → (manifest_of job.hand.map.noted).bytes ≤ 9223372036854775807 → (names : List Bytes) → listed_by file_grammars (name_for (manifest_of job.hand.map.noted) ticket) (manifest_text (manifest_of job.hand.map.noted)) ≡ Some names → AllByRecursion (IsDrawn tickets) names
+seal_lists k block now tickets ticket history job h some fits names l =
+    let same : (manifest_of job.hand.map.noted).files ≡ names = some_is (manifest_of job.hand.map.noted).files names (sym (seal_content k job ticket (sealed_whole k block now tickets history job h some) fits) ∙ l) in
+    subst (AllByRecursion (IsDrawn tickets)) same (k.manifests.listed tickets job.hand.map.noted (All-weaker (IsNoted block now tickets) (λ n. IsDrawn tickets n.file.name) job.hand.map.noted (drawn_noted block now tickets) h.noted))
+  where
+    some_is : (a b : List Bytes) → Some a ≡ Some b → a ≡ b
+    some_is a b p = cc
 
 seal_order : (k : Known) (p : Workload) (w : State) (place : ℕ) (job : Job) → Sound p w → slice_get w.jobs place ≡ Some job → gap job.hand.map ≡ None → snapshot_bytes job ≤ 9223372036854775807 → w.tickets ≤ most_version → IsOrder p w place job (with_seal job).hand (seal_name w job) (manifest_text (manifest_of job.hand.map.noted))
 seal_order k p w place job h at g fits t =
@@ -195,68 +258,3 @@ seal_tested_keeps k p w found luck None h at g = go (nat_lt most_bytes (snapshot
 
 pub seal_keeps : (k : Known) (p : Workload) (w : State) (luck : Luck) (found : Found) → Sound p w → slice_get w.jobs found.place ≡ Some found.job → Sound p (seal_job w luck found).state
 seal_keeps k p w luck found h at = seal_tested_keeps k p w found luck (gap found.job.hand.map) h at refl
-
-both_ways : (a b : Bool) → (a ≡ true → b ≡ true) → (b ≡ true → a ≡ true) → a ≡ b
-both_ways true b f g = sym (f refl)
-both_ways false true f g = g refl
-both_ways false false f g = refl
-
-not_false : (b : Bool) → not b ≡ false → b ≡ true
-not_false true e = refl
-not_false false e = cc
-
--- without a gap they have the keys of the ranges
-pub tiles : (k : Known) (job : List KeyRange) (noted : List Noted) → AreSeparate job → ArePieces (pieces_of noted) → ((key : Bytes) → in_ranges (pieces_of noted) key ≡ true → in_ranges job key ≡ true) → gap_in job (pieces_of noted) ≡ None → (key : Bytes) → in_ranges (pieces_of noted) key ≡ in_ranges job key
-tiles k job noted s p inside g key =
-    let none : IsFirstOrNone (in_ranges job) (λ key. not (in_ranges (pieces_of noted) key)) None = subst (IsFirstOrNone (in_ranges job) (λ key. not (in_ranges (pieces_of noted) key))) g (k.piece.gap job (pieces_of noted) s p) in
-    both_ways (in_ranges (pieces_of noted) key) (in_ranges job key) (inside key) (λ h. not_false (in_ranges (pieces_of noted) key) (none key h))
-
-has_begin : (range : KeyRange) (job : List KeyRange) → is_backwards range ≡ false → in_ranges (range ∷ job) range.begin ≡ true
-has_begin range job h = rw (below_itself range.begin, not_false (is_below range.begin range.end) h) refl
-
--- so there are some
-pub some_noted : (job : List KeyRange) (noted : List Noted) → 0 < length job → AreSeparate job → ((key : Bytes) → in_ranges (pieces_of noted) key ≡ in_ranges job key) → 0 < length noted
-some_noted [] noted l s t = absurd (omega arith)
-some_noted (range ∷ job) [] l s t = absurd (let e = t range.begin ∙ has_begin range job s.0 in cc)
-some_noted (range ∷ job) (n ∷ noted) l s t = omega arith
-
-is_read : (k : Known) (block now tickets : ℕ) (container : Bytes) (files : List File) (folder : Folder) (noted : Noted) → AreFiles files → folder_in file_grammars container files ≡ Some folder → IsNoted block now tickets noted → IsThere block container files noted → IsRead folder.ranges noted
-is_read k block now tickets container files folder noted o f n h = (
-  h.pairs,
-  k.files.found container (whole_name container noted.file.name) noted.file.name h.bytes files folder n.snapshot noted.file.version n.ticket block o (k.files.whole_in container noted.file.name) h.file n.name f
-      ∙ ap (λ c. c >>= λ body. Some (record { version = noted.file.version; range = body.range; pairs = body.pairs })) h.content,
-)
-
-all_read : (k : Known) (block now tickets : ℕ) (container : Bytes) (files : List File) (folder : Folder) (noted : List Noted) → AreFiles files → folder_in file_grammars container files ≡ Some folder → AllByRecursion (IsNoted block now tickets) noted → AllByRecursion (IsThere block container files) noted → AllByRecursion (IsRead folder.ranges) noted
-all_read k block now tickets container files folder [] o f n h = tt
-all_read k block now tickets container files folder (x ∷ xs) o f n h = (is_read k block now tickets container files folder x o f n.0 h.0, all_read k block now tickets container files folder xs o f n.1 h.1)
-
-version_noted : (block now tickets : ℕ) (noted : Noted) → IsNoted block now tickets noted → version_of noted.file.name ≡ Some noted.file.version
-version_noted block now tickets noted h = ap version_in h.name
-
-pub sealed_whole : (k : Known) (block now tickets : ℕ) (history : List Entry) (job : Job) → IsJobSound block now tickets history job → 0 < length job.hand.map.noted → IsWhole (manifest_of job.hand.map.noted)
-sealed_whole k block now tickets history job h some = k.manifests.whole job.hand.map.noted some (All-weaker (IsNoted block now tickets) (λ n. version_of n.file.name ≡ Some n.file.version) job.hand.map.noted (version_noted block now tickets) h.noted) h.distinct
-
-pub seal_content : (k : Known) (job : Job) (ticket : ℕ) → IsWhole (manifest_of job.hand.map.noted) → (manifest_of job.hand.map.noted).bytes ≤ 9223372036854775807 → file_grammars.manifest (name_for (manifest_of job.hand.map.noted) ticket) (manifest_text (manifest_of job.hand.map.noted)) ≡ Some (manifest_of job.hand.map.noted).files
-seal_content k job ticket w fits = k.contents.manifest (name_for (manifest_of job.hand.map.noted) ticket) (manifest_text (manifest_of job.hand.map.noted)) (manifest_of job.hand.map.noted) (k.manifests.written (manifest_of job.hand.map.noted) ticket w fits)
-
-pub seal_honest : (k : Known) (block now tickets ticket : ℕ) (history : List Entry) (files : List File) (job : Job) (name : Bytes) → AreFiles files → IsJobSound block now tickets history job → (st : IsStored block now tickets history files job) → gap job.hand.map ≡ None → (manifest_of job.hand.map.noted).bytes ≤ 9223372036854775807
-    → IsHonestManifest (source_of block now history job) st.honest.folder.ranges (manifest_file file_grammars name (manifest_text (manifest_of job.hand.map.noted)) (name_for (manifest_of job.hand.map.noted) ticket) (manifest_of job.hand.map.noted).begin (manifest_of job.hand.map.noted).end)
-seal_honest k block now tickets ticket history files job name o h st g fits =
-    let tiled = tiles k job.hand.map.ranges job.hand.map.noted h.ranges.separate h.pieces h.inside g in
-    let some = some_noted job.hand.map.ranges job.hand.map.noted h.some h.ranges.separate tiled in
-    k.manifests.honest (source_of block now history job) st.honest.folder.ranges job.hand.map.noted _ some
-    (all_read k block now tickets job.container files st.honest.folder job.hand.map.noted o st.honest.decoded h.noted st.there)
-    h.pieces tiled refl refl (seal_content k job ticket (sealed_whole k block now tickets history job h some) fits)
-
-drawn_noted : (block now tickets : ℕ) (noted : Noted) → IsNoted block now tickets noted → IsDrawn tickets noted.file.name
-drawn_noted block now tickets noted h = record { snapshot = h.snapshot; version = noted.file.version; ticket = h.ticket; block = block; read = h.name; drawn = h.drawn }
-
--- it lists files with drawn tickets
-pub seal_lists : (k : Known) (block now tickets ticket : ℕ) (history : List Entry) (job : Job) → IsJobSound block now tickets history job → 0 < length job.hand.map.noted → (manifest_of job.hand.map.noted).bytes ≤ 9223372036854775807 → (names : List Bytes) → listed_by file_grammars (name_for (manifest_of job.hand.map.noted) ticket) (manifest_text (manifest_of job.hand.map.noted)) ≡ Some names → AllByRecursion (IsDrawn tickets) names
-seal_lists k block now tickets ticket history job h some fits names l =
-    let same : (manifest_of job.hand.map.noted).files ≡ names = some_is (manifest_of job.hand.map.noted).files names (sym (seal_content k job ticket (sealed_whole k block now tickets history job h some) fits) ∙ l) in
-    subst (AllByRecursion (IsDrawn tickets)) same (k.manifests.listed tickets job.hand.map.noted (All-weaker (IsNoted block now tickets) (λ n. IsDrawn tickets n.file.name) job.hand.map.noted (drawn_noted block now tickets) h.noted))
-  where
-    some_is : (a b : List Bytes) → Some a ≡ Some b → a ≡ b
-    some_is a b p = cc

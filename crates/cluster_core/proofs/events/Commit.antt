@@ -10,7 +10,7 @@ use Rattle.database.specs.Commits.{commit_answer, history_after, time_after}
 use Rattle.client_core.specs.Clients.{ClientState, next_ops, who_of, try_of}
 use Rattle.client_core.specs.Ends.{end_of, version_of}
 use Rattle.cluster_core.specs.declared.event.Answer.{Answer}
-use Rattle.cluster_core.specs.Jobs.{Job, newest, logs_of}
+use Rattle.cluster_core.specs.Jobs.{Job, logs_of}
 use Rattle.cluster_core.specs.State.{State, history_on, with_history, client_at, put_client}
 use Rattle.cluster_core.specs.Moves.{moved}
 use Rattle.cluster_core.specs.events.Commit.{commit_with, try_in}
@@ -40,7 +40,7 @@ use Rattle.client_core.specs.declared.Outcome.{Outcome}
 use Rattle.client_core.specs.Clients.{ClientState, next_ops, after_try, try_of}
 use Rattle.client_core.specs.Legal.{is_by, entries_by, entry_of, committed, IsLegal}
 use Rattle.container_view.specs.Changes.{Grows}
-use Rattle.cluster_core.specs.Jobs.{Job, newest, is_on, logs_from, logs_of}
+use Rattle.cluster_core.specs.Jobs.{Job, is_on, logs_from, logs_of}
 use Rattle.cluster_core.specs.State.{State, on_side, history_on, with_history, client_at, put_client}
 use Rattle.cluster_core.specs.Moves.{moved}
 use Rattle.cluster_core.specs.Sound.{IsOrdered, other_side, IsClientSound, AreLoggable, IsJobSound, IsStored, AreApart, Sound, source_of}
@@ -116,6 +116,14 @@ bound_after : (time pace : ℕ) (o : Option ℕ) → IsNext time pace o → time
 bound_after time pace None e h = h
 bound_after time pace (Some version) e h = e.1
 
+here : (side : Side) (w : State) (history : List Entry) → on_side side (with_history side history w).src (with_history side history w).dst ≡ history
+here Src w history = refl
+here Dst w history = refl
+
+there : (side : Side) (w : State) (history : List Entry) → on_side (other_side side) (with_history side history w).src (with_history side history w).dst ≡ on_side (other_side side) w.src w.dst
+there Src w history = refl
+there Dst w history = refl
+
 -- a fact of each history stands where the one of a side is exchanged for another of which it holds
 each_side : (P : List Entry → Type 0) (side t : Side) (w : State) (history : List Entry) → P history → ((u : Side) → P (on_side u w.src w.dst)) → P (on_side t (with_history side history w).src (with_history side history w).dst)
 each_side P Src Src w history here there = here
@@ -129,14 +137,6 @@ same_entries m Src Src w history e = e
 same_entries m Src Dst w history e = refl
 same_entries m Dst Src w history e = refl
 same_entries m Dst Dst w history e = e
-
-here : (side : Side) (w : State) (history : List Entry) → on_side side (with_history side history w).src (with_history side history w).dst ≡ history
-here Src w history = refl
-here Dst w history = refl
-
-there : (side : Side) (w : State) (history : List Entry) → on_side (other_side side) (with_history side history w).src (with_history side history w).dst ≡ on_side (other_side side) w.src w.dst
-there Src w history = refl
-there Dst w history = refl
 
 by_own : (n number : ℕ) (x : Entry) (place : ℕ) → x.who ≡ who.Client number place → number ≡ n → entries_by n (x ∷ []) ≡ x ∷ []
 by_own n number x place w e = ap (λ (b : Bool). cond b (x ∷ []) []) (ap (is_by n) w ∙ eq-eqb number n e)

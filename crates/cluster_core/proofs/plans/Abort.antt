@@ -7,7 +7,6 @@ use Rattle.fb_outside.specs.declared.File.{File}
 use Rattle.versioned_kv.specs.declared.Versions.{Versions}
 use Rattle.workload_text.specs.declared.Side.{Side}
 use Rattle.workload_text.specs.declared.Side.TheVariants.{Src, Dst}
-use Rattle.workload_text.specs.declared.Command.{Command}
 use Rattle.workload_text.specs.declared.Workload.{Workload}
 use Rattle.database.specs.declared.JobLog.{JobLog}
 use Rattle.database.specs.Logs.{without_log}

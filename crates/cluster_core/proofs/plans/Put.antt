@@ -8,7 +8,6 @@ use Rattle.fb_outside.specs.Files.{with_file}
 use Rattle.versioned_kv.specs.declared.Versions.{Versions}
 use Rattle.workload_text.specs.declared.Side.{Side}
 use Rattle.workload_text.specs.declared.Side.TheVariants.{Src, Dst}
-use Rattle.workload_text.specs.declared.Command.{Command}
 use Rattle.workload_text.specs.declared.Workload.{Workload}
 use Rattle.database.specs.declared.JobLog.{JobLog}
 use Rattle.database.specs.Commits.{Database, most_version}

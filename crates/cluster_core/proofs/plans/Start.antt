@@ -9,7 +9,6 @@ use Rattle.fb_outside.specs.declared.File.{File}
 use Rattle.versioned_kv.specs.declared.Versions.{Versions}
 use Rattle.workload_text.specs.declared.Side.{Side}
 use Rattle.workload_text.specs.declared.Side.TheVariants.{Src, Dst}
-use Rattle.workload_text.specs.declared.Command.{Command}
 use Rattle.workload_text.specs.declared.Workload.{Workload}
 use Rattle.database.specs.declared.JobLog.{JobLog}
 use Rattle.database.specs.Logs.{log_of, with_log}

@@ -1,6 +1,5 @@
 -- The command abort: a job is given up.
 use Rattle.backup_core.specs.Hand.{aborted_job}
-use Rattle.cluster_core.specs.declared.event.Answer.TheVariants.{State}
 use Rattle.cluster_core.specs.Jobs.{Job, Found}
 use Rattle.cluster_core.specs.State as machine
 use Rattle.cluster_core.specs.State.{with_job}

@@ -8,7 +8,6 @@ use Rattle.container_view.specs.Files.{whole_name}
 use Rattle.backup_core.specs.Hand.{log_name, text_of}
 use Rattle.backup_core.specs.Hand.{cut_to}
 use Rattle.workload_text.specs.declared.Settings.{Settings}
-use Rattle.cluster_core.specs.declared.event.Answer.TheVariants.{State}
 use Rattle.cluster_core.specs.declared.refusal.Refusal.TheVariants.{NothingNew}
 use Rattle.cluster_core.specs.Jobs.{Job, Found}
 use Rattle.cluster_core.specs.State as machine

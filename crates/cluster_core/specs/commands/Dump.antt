@@ -12,8 +12,6 @@ use Rattle.database.specs.Dumps.{pairs_at}
 use Rattle.backup_core.specs.Hand.{range_name, text_of, dumped}
 use Rattle.workload_text.specs.declared.Side.{Side}
 use Rattle.workload_text.specs.declared.Settings.{Settings}
-use Rattle.cluster_core.specs.declared.event.Answer.TheVariants.{Done}
-use Rattle.cluster_core.specs.declared.event.Answer.TheVariants.{State}
 use Rattle.cluster_core.specs.declared.refusal.Refusal.TheVariants.{OutsideRanges}
 use Rattle.cluster_core.specs.declared.refusal.Refusal.TheVariants.{Overlap}
 use Rattle.cluster_core.specs.Jobs.{Job, Found}

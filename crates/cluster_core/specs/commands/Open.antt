@@ -9,7 +9,6 @@ use Rattle.database.specs.Commits.{most_version}
 use Rattle.backup_core.specs.Hand.{opened}
 use Rattle.workload_text.specs.declared.Side.{Side}
 use Rattle.workload_text.specs.declared.Settings.{Settings}
-use Rattle.cluster_core.specs.declared.event.Answer.TheVariants.{State}
 use Rattle.cluster_core.specs.declared.event.StepFault.TheVariants.{VersionsSpent}
 use Rattle.cluster_core.specs.declared.refusal.Refusal.TheVariants.{TagBusy, ContainerTaken}
 use Rattle.cluster_core.specs.declared.refusal.Refusal.TheVariants.{ContainerInUse}

@@ -7,7 +7,6 @@ use Rattle.container_view.specs.Files.{whole_name}
 use Rattle.snapshot_plan.specs.Noted.{gap, manifest_of, most_bytes}
 use Rattle.backup_core.specs.Hand.{manifest_name, text_of}
 use Rattle.backup_core.specs.Hand.{sealed}
-use Rattle.cluster_core.specs.declared.event.Answer.TheVariants.{State}
 use Rattle.cluster_core.specs.declared.event.StepFault.TheVariants.{NoMemory}
 use Rattle.cluster_core.specs.declared.refusal.Refusal.TheVariants.{Untiled}
 use Rattle.cluster_core.specs.Jobs.{Job, Found}

@@ -5,7 +5,6 @@ use Rattle.fb_bytes.specs.Bytes.{Bytes}
 use Rattle.fb_outside.specs.declared.File.{File}
 use Rattle.database.specs.Commits.{most_version}
 use Rattle.cluster_core.specs.declared.event.Answer.TheVariants.{Done, Placed, Refused}
-use Rattle.cluster_core.specs.declared.event.Answer.TheVariants.{State}
 use Rattle.cluster_core.specs.declared.event.StepFault.TheVariants.{NoMemory}
 use Rattle.cluster_core.specs.declared.refusal.Refusal.{Refusal}
 use Rattle.cluster_core.specs.declared.refusal.Refusal.TheVariants.{NoJob}

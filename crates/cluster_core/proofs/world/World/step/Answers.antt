@@ -1,4 +1,4 @@
-use Rattle.std.proofs.Common.{[], Ok}
+use Rattle.std.proofs.Common.{Ok}
 use Rattle.cluster_core.specs.declared.event.Event.TheVariants as events
 use Rattle.cluster_core.specs.Moves.{Fine, Silent}
 use Rattle.cluster_core.proofs.plans.Operator.{made, commit_made}
