@@ -14,7 +14,7 @@ use Rattle.database.specs.Commits.{most_version}
 use Rattle.backup_core.specs.Hand.{BackupJob}
 use Rattle.cluster_core.specs.Jobs.{Job}
 use Rattle.cluster_core.specs.State.{State, history_on, with_job, with_put}
-use Rattle.cluster_core.specs.Commands.{gone_on}
+use Rattle.cluster_core.specs.commands.Shared.{gone_on}
 use Rattle.cluster_core.specs.Sound.{IsDrawn, IsJobSound, IsStored, AreApart, AreContainersSound, Sound, view_of, source_of}
 use Rattle.cluster_core.proofs.Lists.{same_or_other}
 use Rattle.cluster_core.proofs.All.{each_set}

@@ -14,10 +14,12 @@ use Rattle.cluster_core.specs.declared.refusal.Refusal.TheVariants.{OutsideRange
 use Rattle.cluster_core.specs.Jobs.{Found, newest, state_of_job}
 use Rattle.cluster_core.specs.State.{State}
 use Rattle.cluster_core.specs.Moves.{Luck, Moved}
-use Rattle.cluster_core.specs.Commands.{refuses, dump_put, dump_tested, dump_piece, seal_tested, seal_job, on_found, on_job}
+use Rattle.cluster_core.specs.commands.Shared.{refuses, on_found, on_job}
+use Rattle.cluster_core.specs.commands.Dump.{dump_put, dump_tested, dump_piece}
+use Rattle.cluster_core.specs.commands.Seal.{seal_tested, seal_job}
 use Rattle.cluster_core.specs.Sound.{Sound}
 use Rattle.cluster_core.specs.LeastKeys.{LeastKeyLaw}
-use Rattle.cluster_core.proofs.Steps.{newest_at}
+use Rattle.cluster_core.proofs.commands.Jobs.{newest_at}
 
 -- a command of the newest job with the tag
 runs : (w : State) (tag : Bytes) (f : Found → Moved) (found : Found) → newest tag w.jobs ≡ Some found → found.job.hand.aborted ≡ false → on_job w tag f ≡ f found

@@ -20,12 +20,14 @@ use Rattle.cluster_core.specs.declared.event.StepFault.{StepFault}
 use Rattle.cluster_core.specs.State.{State, client_at, put_client}
 use Rattle.cluster_core.specs.Jobs.{Job, logs_of}
 use Rattle.cluster_core.specs.Moves.{FailsOld, Moved, moved}
-use Rattle.cluster_core.specs.Step.{begin_with, commit}
+use Rattle.cluster_core.specs.events.Begin.{begin_with}
+use Rattle.cluster_core.specs.events.Commit.{commit}
 use Rattle.cluster_core.specs.Sound.{Sound}
 use Rattle.cluster_core.specs.inner.World.{Desk, state_of, IsWorld, begun_in, tried_in}
 use Rattle.cluster_core.proofs.Openings.{opening_is_sound}
 use Rattle.cluster_core.proofs.Relied.{known}
-use Rattle.cluster_core.proofs.Steps.{begin_of_keeps, event_keeps}
+use Rattle.cluster_core.proofs.events.Begin.{begin_of_keeps}
+use Rattle.cluster_core.proofs.Steps.{event_keeps}
 
 -- ---- a client of a slice
 

@@ -9,7 +9,10 @@ use Rattle.cluster_core.specs.declared.refusal.Refusal.TheVariants.{OutsideRange
 use Rattle.cluster_core.specs.Jobs.{Found, newest}
 use Rattle.cluster_core.specs.State.{State}
 use Rattle.cluster_core.specs.Moves.{Luck, Moved}
-use Rattle.cluster_core.specs.Commands.{refuses, dump_put, seal_put, command_gives}
+use Rattle.cluster_core.specs.commands.Shared.{refuses}
+use Rattle.cluster_core.specs.commands.Dump.{dump_put}
+use Rattle.cluster_core.specs.commands.Seal.{seal_put}
+use Rattle.cluster_core.specs.Operator.{command_gives}
 use Rattle.cluster_core.specs.Sound.{Sound}
 
 -- A dump is refused for the least key of its piece outside the job's ranges, else for the least

@@ -1,7 +1,6 @@
 pub mod Jobs
 pub mod State
 pub mod Moves
-pub mod Commands
 pub mod Step
 pub mod Sound
 pub mod Footprints
@@ -10,3 +9,6 @@ pub mod Laws
 pub mod World
 pub mod LeastKeys
 pub mod inner
+pub mod commands
+pub mod Operator
+pub mod events

@@ -1,58 +1,18 @@
 -- One step of the machine, and its runs.
-use Rattle.std.specs.Prelude.{◌≡◌, ℕ, List, [], ◌∷◌, Option, Some, None, Result, Ok, Err, slice_get}
+use Rattle.std.specs.Prelude.{◌≡◌, List, [], ◌∷◌, Result, Err, slice_get}
 use Rattle.std.specs.Prelude.{if◌then◌else◌}
-use Rattle.fb_bytes.specs.Options.{◌>>=◌}
-use Rattle.workload_text.specs.declared.Settings.{Settings}
 use Rattle.workload_text.specs.declared.Workload.{Workload}
-use Rattle.client_core.specs.Clients.{ClientState, begun_client, Try, commit_try}
 use Rattle.cluster_core.specs.declared.event.Event.{Event}
 use Rattle.cluster_core.specs.declared.event.Event.TheVariants.{Begin, Commit}
 use Rattle.cluster_core.specs.declared.event.Event.TheVariants as events
 use Rattle.cluster_core.specs.declared.event.Answer.{Answer}
-use Rattle.cluster_core.specs.declared.event.Answer.TheVariants.{Nothing, Read, Outcome}
 use Rattle.cluster_core.specs.declared.event.StepFault.{StepFault}
 use Rattle.cluster_core.specs.declared.event.StepFault.TheVariants.{NoMemory}
-use Rattle.cluster_core.specs.Jobs.{logs_of}
-use Rattle.cluster_core.specs.State.{State, history_on, with_history, client_at, put_client}
+use Rattle.cluster_core.specs.State.{State}
 use Rattle.cluster_core.specs.Moves.{Luck, is_starved, Moved, moved}
-use Rattle.cluster_core.specs.Commands.{operator_with}
-
--- ---- begin
-
-abbrev pub begin_with : State → ℕ → Option ClientState → Moved
-begin_with state number None = moved (Ok Nothing) state
-begin_with state number (Some client) =
-    moved (Ok (Read state.time)) (record state { clients = put_client state.clients number client })
-
--- A transaction is begun where the client is there, has one left and has begun none.
-abbrev pub begin : State → ℕ → Moved
-begin state number =
-    begin_with state number (client_at state.clients number >>= begun_client state.time)
-
--- ---- commit
-
--- the state after a try of the client of that number
-abbrev pub after : State → ℕ → Try → State
-after state number try =
-    record (with_history try.client.script.side try.history state)
-    { time = try.time; clients = put_client state.clients number try.client }
-
-abbrev pub commit_with : State → ℕ → Option Try → Moved
-commit_with state number None = moved (Ok Nothing) state
-commit_with state number (Some try) = moved (Ok (Outcome try.outcome)) (after state number try)
-
--- a client's try in this state
-abbrev pub try_in : Settings → State → ClientState → Option Try
-try_in settings state client =
-    commit_try settings.block state.time settings.pace (logs_of client.script.side state.jobs)
-    (history_on client.script.side state) client
-
--- A try is made where the client is there and has begun a transaction.
-abbrev pub commit : Settings → State → ℕ → Moved
-commit settings state number =
-    commit_with state number (client_at state.clients number >>= try_in settings state)
-
--- ---- all events
+use Rattle.cluster_core.specs.Operator.{operator_with}
+use Rattle.cluster_core.specs.events.Begin.{begin}
+use Rattle.cluster_core.specs.events.Commit.{commit}
 
 -- The operator's next command, where one is left.
 abbrev pub operate : Workload → State → Luck → Moved

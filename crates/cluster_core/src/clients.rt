@@ -9,7 +9,7 @@ ghost use Rattle.client_core.specs.Clients.{ClientState, new_client};
 ghost use Rattle.cluster_core.specs.State.{put_client};
 ghost use Rattle.cluster_core.specs.Jobs.{logs_of};
 ghost use Rattle.cluster_core.specs.Moves.{moved};
-ghost use Rattle.cluster_core.specs.Step.{commit};
+ghost use Rattle.cluster_core.specs.events.Commit.{commit};
 ghost use Rattle.cluster_core.specs.inner.World.{Desk, state_of, begun_in, tried_in, side_in, answer_of};
 
 use crate::{Answer, StepFault};

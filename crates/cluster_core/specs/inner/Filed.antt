@@ -10,7 +10,7 @@ use Rattle.cluster_core.specs.declared.change.Change.{Change}
 use Rattle.cluster_core.specs.declared.change.Change.TheVariants.{Dump, Cut, Seal}
 use Rattle.cluster_core.specs.Jobs.{Job}
 use Rattle.cluster_core.specs.State.{State}
-use Rattle.cluster_core.specs.Commands.{dump_name, dump_bytes}
+use Rattle.cluster_core.specs.commands.Dump.{dump_name, dump_bytes}
 
 -- the job once the file is put
 abbrev pub changed : Change → Job → Job

@@ -15,8 +15,11 @@ use Rattle.cluster_core.specs.declared.plan.Running.TheVariants.{At, Refused}
 use Rattle.cluster_core.specs.Jobs.{Job, Found, newest}
 use Rattle.cluster_core.specs.State.{State, with_job}
 use Rattle.cluster_core.specs.Moves.{Luck, Moved, moved}
-use Rattle.cluster_core.specs.Commands.{gone_on, refuses, done, putting, with_abort, open_listed}
-use Rattle.cluster_core.specs.Commands.{on_job, command_gives}
+use Rattle.cluster_core.specs.commands.Shared.{gone_on, refuses, done, putting}
+use Rattle.cluster_core.specs.commands.Abort.{with_abort}
+use Rattle.cluster_core.specs.commands.Open.{open_listed}
+use Rattle.cluster_core.specs.commands.Shared.{on_job}
+use Rattle.cluster_core.specs.Operator.{command_gives}
 use Rattle.cluster_core.specs.inner.Filed.{changed, CanChange}
 use Rattle.cluster_core.specs.Step.{operate}
 

@@ -29,8 +29,9 @@ use Rattle.cluster_core.specs.declared.event.Event.TheVariants as events
 use Rattle.cluster_core.specs.declared.event.StepFault.{StepFault}
 use Rattle.cluster_core.specs.declared.event.StepFault.TheVariants.{NoMemory}
 use Rattle.cluster_core.specs.Moves.{Luck, moved}
-use Rattle.cluster_core.specs.Commands.{names_listed}
-use Rattle.cluster_core.specs.Step.{commit, step}
+use Rattle.cluster_core.specs.commands.Open.{names_listed}
+use Rattle.cluster_core.specs.events.Commit.{commit}
+use Rattle.cluster_core.specs.Step.{step}
 use Rattle.cluster_core.specs.Sound.{Sound}
 use Rattle.cluster_core.specs.World.{Seen}
 

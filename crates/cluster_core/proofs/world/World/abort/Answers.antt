@@ -4,13 +4,13 @@ use Rattle.cluster_core.specs.declared.event.Event.TheVariants as events
 use Rattle.cluster_core.specs.declared.plan.Plan.TheVariants as plans
 use Rattle.cluster_core.specs.Jobs.{Job}
 use Rattle.cluster_core.specs.Moves.{Fine, moved, Silent}
-use Rattle.cluster_core.specs.Commands.{with_abort}
+use Rattle.cluster_core.specs.commands.Abort.{with_abort}
 use Rattle.cluster_core.specs.Step.{step}
 use Rattle.cluster_core.specs.inner.Plans.{IsPlan, IsSafe}
 use Rattle.cluster_core.specs.World.{Seen}
 use Rattle.cluster_core.specs.inner.World.{state_of, IsWorld}
-use Rattle.cluster_core.proofs.Carried.{abort_world, abort_state}
-use Rattle.cluster_core.proofs.Planned.{got}
+use Rattle.cluster_core.proofs.plans.Abort.{abort_world, abort_state}
+use Rattle.cluster_core.proofs.commands.Jobs.{got}
 use Rattle.cluster_core.proofs.world.World.abort.Goals as goal
 
 pub invariant_of-self : goal.invariant_of-self

@@ -1,7 +1,7 @@
 use Rattle.std.proofs.Common.{◌≡◌, ◌++◌, length, take, drop, Ok, ap, subst, ◌∙◌}
 use Rattle.cluster_core.specs.Moves.{moved}
 use Rattle.cluster_core.specs.State.{State}
-use Rattle.cluster_core.specs.Step.{commit}
+use Rattle.cluster_core.specs.events.Commit.{commit}
 use Rattle.cluster_core.specs.World.{Seen}
 use Rattle.cluster_core.specs.inner.World.{Desk, state_of}
 use Rattle.workload_text.specs.declared.Side.TheVariants.{Src, Dst}

@@ -1,6 +1,6 @@
 use Rattle.std.proofs.Common.{ap}
 use Rattle.cluster_core.specs.World.{Seen}
-use Rattle.cluster_core.proofs.Planned.{dump_begun, dump_filed}
+use Rattle.cluster_core.proofs.commands.Dump.{dump_begun, dump_filed}
 use Rattle.cluster_core.proofs.world.World.dump.Goals as goal
 
 pub range_name-requires-after_bounds : goal.range_name-requires-after_bounds

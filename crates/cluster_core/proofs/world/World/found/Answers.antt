@@ -1,6 +1,6 @@
 use Rattle.std.proofs.Common.{◌<◌, length, ap, sym, ◌∙◌, arith}
 use Rattle.cluster_core.specs.World.{Seen}
-use Rattle.cluster_core.proofs.Planned.{newest_in, found_is}
+use Rattle.cluster_core.proofs.commands.Jobs.{newest_in, found_is}
 use Rattle.cluster_core.proofs.world.World.found.Goals as goal
 
 pub index-requires : goal.index-requires

@@ -1,7 +1,7 @@
 use Rattle.std.proofs.Common.{ℕ, ◌<◌, length, sym, subst}
 use Rattle.cluster_core.specs.World.{Seen}
 use Rattle.cluster_core.specs.inner.World.{state_of}
-use Rattle.cluster_core.proofs.Carried.{gone_world}
+use Rattle.cluster_core.proofs.plans.Operator.{gone_world}
 use Rattle.cluster_core.proofs.world.World.go_on.Goals as goal
 
 pub invariant_of-self : goal.invariant_of-self

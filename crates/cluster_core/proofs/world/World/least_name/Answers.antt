@@ -1,7 +1,7 @@
 use Rattle.std.proofs.Common.{subst}
 use Rattle.cluster_core.specs.World.{Seen}
 use Rattle.cluster_core.specs.inner.World.{IsListed, state_of}
-use Rattle.cluster_core.proofs.Carried.{listed_first}
+use Rattle.cluster_core.proofs.plans.Start.{listed_first}
 use Rattle.cluster_core.proofs.world.World.least_name.Goals as goal
 
 pub returns-in-Ok-clause-listed : goal.returns-in-Ok-clause-listed

@@ -3,7 +3,7 @@ use Rattle.fb_bytes.specs.Bytes.{Bytes}
 use Rattle.backup_core.specs.Hand.{BackupJob}
 use Rattle.cluster_core.specs.World.{Seen}
 use Rattle.cluster_core.specs.Sound.{Sound}
-use Rattle.cluster_core.proofs.Cuts.{number_fits, has_log, chunk_batches, chunk_writable, chunk_text}
+use Rattle.cluster_core.proofs.commands.Cut.{number_fits, has_log, chunk_batches, chunk_writable, chunk_text}
 use Rattle.cluster_core.proofs.world.World.log_bytes.Goals as goal
 
 pub overflow_add-number : goal.overflow_add-number

@@ -1,8 +1,8 @@
 use Rattle.std.proofs.Common.{subst}
 use Rattle.cluster_core.specs.inner.World.{IsListed}
 use Rattle.std.proofs.Common.{ap, ◌∙◌}
-use Rattle.cluster_core.specs.Commands.{gone_on}
-use Rattle.cluster_core.proofs.Carried.{open_refused}
+use Rattle.cluster_core.specs.commands.Shared.{gone_on}
+use Rattle.cluster_core.proofs.plans.Start.{open_refused}
 use Rattle.cluster_core.proofs.world.World.open_listed.Goals as goal
 
 pub returns-in-Ok-Some-clause-step : goal.returns-in-Ok-Some-clause-step

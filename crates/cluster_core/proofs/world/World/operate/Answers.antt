@@ -1,6 +1,6 @@
 use Rattle.std.proofs.Common.{subst}
 use Rattle.cluster_core.specs.inner.Plans.{IsPlan, IsSafe}
-use Rattle.cluster_core.proofs.Carried.{refuse_room, tell_room, put_room, abort_room, open_room}
+use Rattle.cluster_core.proofs.plans.Operator.{refuse_room, tell_room, put_room, abort_room, open_room}
 use Rattle.cluster_core.proofs.world.World.operate.Goals as goal
 
 pub go_on-requires-after_bounds : goal.go_on-requires-after_bounds

@@ -2,7 +2,8 @@ use Rattle.std.proofs.Common.{◌≡◌, ◌≤◌, ap, ◌∙◌, subst, slice_
 use Rattle.database.specs.Commits.{most_version}
 use Rattle.backup_core.specs.Hand.{BackupJob}
 use Rattle.cluster_core.specs.World.{Seen}
-use Rattle.cluster_core.proofs.Cuts.{found_there, found_runs, cut_refused, cut_planned, cut_safe}
+use Rattle.cluster_core.proofs.commands.Jobs.{found_there, found_runs}
+use Rattle.cluster_core.proofs.commands.Cut.{cut_refused, cut_planned, cut_safe}
 use Rattle.cluster_core.proofs.world.World.plan_cut.Goals as goal
 
 pub returns-then-version-next-clause-plan : goal.returns-then-version-next-clause-plan

@@ -1,4 +1,4 @@
-use Rattle.cluster_core.proofs.Planned.{dump_planned, dump_safe}
+use Rattle.cluster_core.proofs.commands.Dump.{dump_planned, dump_safe}
 use Rattle.cluster_core.proofs.world.World.plan_dump.Goals as goal
 
 pub returns-in-Ok-clause-plan : goal.returns-in-Ok-clause-plan

@@ -4,9 +4,9 @@ use Rattle.snapshot_plan.specs.Noted.{gap, manifest_of, most_bytes}
 use Rattle.manifests.specs.declared.Manifest.{Manifest}
 use Rattle.backup_core.specs.Hand.{BackupJob}
 use Rattle.cluster_core.specs.World.{Seen}
-use Rattle.cluster_core.specs.Commands.{refuses}
+use Rattle.cluster_core.specs.commands.Shared.{refuses}
 use Rattle.cluster_core.specs.declared.refusal.Refusal.TheVariants.{Untiled}
-use Rattle.cluster_core.proofs.Cuts.{seal_refused, seal_planned, seal_safe}
+use Rattle.cluster_core.proofs.commands.Seal.{seal_refused, seal_planned, seal_safe}
 use Rattle.cluster_core.proofs.world.World.plan_seal.Goals as goal
 
 pub returns-in-Ok-clause-plan : goal.returns-in-Ok-clause-plan

@@ -13,7 +13,7 @@ use Rattle.cluster_core.specs.inner.Plans.{IsPlan, IsSafe}
 use Rattle.cluster_core.specs.State.{State, with_put}
 use Rattle.cluster_core.specs.World.{Seen}
 use Rattle.cluster_core.specs.inner.World.{IsWorld, state_of}
-use Rattle.cluster_core.proofs.Carried.{put_files, failed_files, put_world, put_done, failed_step, failed_world}
+use Rattle.cluster_core.proofs.plans.Put.{put_files, failed_files, put_world, put_done, failed_step, failed_world}
 use Rattle.cluster_core.proofs.Filings.{filed, unfiled, ahead_there}
 use Rattle.cluster_core.proofs.world.World.put.Goals as goal
 

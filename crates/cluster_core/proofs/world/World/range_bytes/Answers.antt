@@ -1,6 +1,6 @@
 use Rattle.std.proofs.Common.{ap}
 use Rattle.cluster_core.specs.World.{Seen}
-use Rattle.cluster_core.proofs.Planned.{piece_written}
+use Rattle.cluster_core.proofs.commands.Dump.{piece_written}
 use Rattle.cluster_core.proofs.world.World.range_bytes.Goals as goal
 
 pub write_range_at-requires : goal.write_range_at-requires

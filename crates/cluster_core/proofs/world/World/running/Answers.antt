@@ -1,4 +1,4 @@
-use Rattle.cluster_core.proofs.Planned.{running_at}
+use Rattle.cluster_core.proofs.commands.Jobs.{running_at}
 use Rattle.cluster_core.proofs.world.World.running.Goals as goal
 
 pub returns : goal.returns

@@ -2,7 +2,7 @@ use Rattle.std.proofs.Common.{◌≡◌, IfOk, subst, arith}
 use Rattle.cluster_core.specs.declared.plan.Filing.{Filing}
 use Rattle.cluster_core.specs.World.{Seen}
 use Rattle.cluster_core.specs.Sound.{Sound}
-use Rattle.cluster_core.proofs.Cuts.{sealable, seal_filed}
+use Rattle.cluster_core.proofs.commands.Seal.{sealable, seal_filed}
 use Rattle.cluster_core.proofs.world.World.seal.Goals as goal
 
 pub write-requires : goal.write-requires

@@ -6,14 +6,14 @@ use Rattle.cluster_core.specs.declared.event.StepFault.TheVariants.{VersionsSpen
 use Rattle.cluster_core.specs.declared.plan.Plan.TheVariants as plans
 use Rattle.database.specs.Commits.{most_version}
 use Rattle.backup_core.specs.Hand.{BackupJob}
-use Rattle.cluster_core.specs.Commands.{new_job}
+use Rattle.cluster_core.specs.commands.Open.{new_job}
 use Rattle.cluster_core.specs.Jobs.{Job}
 use Rattle.cluster_core.specs.Moves.{Starved, moved}
 use Rattle.cluster_core.specs.Step.{step}
 use Rattle.cluster_core.specs.inner.Plans.{IsPlan}
 use Rattle.cluster_core.specs.World.{Seen}
 use Rattle.cluster_core.specs.inner.World.{state_of, IsListed}
-use Rattle.cluster_core.proofs.Carried.{IsStart, next_same, none_next, next_logs_none, start_world, start_done, start_spent, start_undone, start_undone_world, taken_back}
+use Rattle.cluster_core.proofs.plans.Start.{IsStart, next_same, none_next, next_logs_none, start_world, start_done, start_spent, start_undone, start_undone_world, taken_back}
 use Rattle.cluster_core.proofs.world.World.start.Goals as goal
 
 pub begin_log-requires-clause-src : goal.begin_log-requires-clause-src

@@ -1,7 +1,7 @@
-use Rattle.std.proofs.Common.{[], Ok}
+use Rattle.std.proofs.Common.{Ok}
 use Rattle.cluster_core.specs.declared.event.Event.TheVariants as events
 use Rattle.cluster_core.specs.Moves.{Fine, Silent}
-use Rattle.cluster_core.proofs.Carried.{made, commit_made}
+use Rattle.cluster_core.proofs.plans.Operator.{made, commit_made}
 use Rattle.cluster_core.proofs.Footprints.{step_touches}
 use Rattle.cluster_core.proofs.world.World.step.Goals as goal
 use Rattle.cluster_core.proofs.world.World.step.Goals.{in-Begin, in-Commit, in-Command}

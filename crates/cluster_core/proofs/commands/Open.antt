@@ -1,14 +1,29 @@
--- A job that is opened keeps what is sound.
+-- The command open.
+use Rattle.std.specs.Prelude.{◌≡◌, ℕ, ◌+◌, ◌++◌, Bool, true, false, cond, List, [], ◌∷◌, Option, Some, None, Err, nat_lt, slice_get, refl}
+use Rattle.std.specs.Prelude.{◌≤◌}
+use Rattle.std.proofs.Common.{subst, arith, inl, inr}
+use Rattle.fb_bytes.specs.Bytes.{Bytes}
+use Rattle.fb_bytes.specs.declared.KeyRange.{KeyRange}
+use Rattle.container_view.specs.Files.{whole_name}
+use Rattle.workload_text.specs.declared.Settings.{Settings}
+use Rattle.workload_text.specs.declared.Side.{Side}
+use Rattle.workload_text.specs.declared.Workload.{Workload}
+use Rattle.cluster_core.specs.declared.event.StepFault.TheVariants.{VersionsSpent}
+use Rattle.cluster_core.specs.declared.refusal.Refusal.TheVariants.{TagBusy}
+use Rattle.cluster_core.specs.Jobs.{Job, newest, started_in}
+use Rattle.cluster_core.specs.State.{State, history_on}
+use Rattle.cluster_core.specs.Moves.{names_said, Luck, Fine, FailsOld, FailsNew, Starved, moved}
+use Rattle.cluster_core.specs.commands.Shared.{done, refuses}
+use Rattle.cluster_core.specs.commands.Open.{new_job, starts, names_listed, open_over, open_listed, open_untaken, is_busy, open_job}
+use Rattle.mutations.specs.declared.Entry.{Entry}
 use Rattle.std.specs.Prelude.{◌≡◌, ℕ, zero, suc, ◌+◌, ◌^◌, ◌<◌, ◌≤◌, Bool, true, false, cond, List, [], ◌∷◌, ◌++◌, length, map, Option, Some, None, nat_lt, slice_get, Err, refl}
 use Rattle.std.specs.List.{AllByRecursion}
 use Rattle.std.proofs.Common.{ap, sym, ◌∙◌, arith, subst}
 use Rattle.std.proofs.lemmas.Bool.{ltb-false}
 use Rattle.fb_bytes.specs.Bytes.{Bytes, is_same}
-use Rattle.fb_bytes.specs.declared.KeyRange.{KeyRange}
 use Rattle.fb_bytes.proofs.Order.{same_eq}
 use Rattle.fb_outside.specs.declared.File.{File}
 use Rattle.fb_outside.specs.Files.{file_of}
-use Rattle.mutations.specs.declared.Entry.{Entry}
 use Rattle.mutations.specs.Clipping.{all_clipped}
 use Rattle.mutations.specs.Spelling.{mutations_spelling}
 use Rattle.file_names.specs.Spelling.{expired_text}
@@ -17,8 +32,6 @@ use Rattle.container_view.specs.Changes.{no_files}
 use Rattle.container_view.specs.Files.{whole_name, name_in, renamed, inside, folder_of}
 use Rattle.container_view.specs.Names.{names_inside}
 use Rattle.container_view.specs.Property.{property_in}
-use Rattle.workload_text.specs.declared.Side.{Side}
-use Rattle.workload_text.specs.declared.Workload.{Workload}
 use Rattle.workload_text.specs.Commands.{IsOpening}
 use Rattle.database.specs.Commits.{most_version}
 use Rattle.cluster_core.specs.declared.event.StepFault.TheVariants.{VersionsSpent}
@@ -26,15 +39,50 @@ use Rattle.cluster_core.specs.declared.refusal.Refusal.TheVariants.{TagBusy}
 use Rattle.cluster_core.specs.Jobs.{Job, newest, started_in}
 use Rattle.cluster_core.specs.State.{State, history_on}
 use Rattle.cluster_core.specs.Moves.{names_said, Luck, Fine, FailsOld, FailsNew, Starved, moved}
-use Rattle.cluster_core.specs.Commands.{done, refuses, new_job, starts, names_listed, open_over, open_listed, open_untaken, is_busy, open_job}
+use Rattle.cluster_core.specs.commands.Shared.{done, refuses}
 use Rattle.cluster_core.specs.Sound.{IsOrdered, AreLoggable, IsJobSound, IsStored, AreApart, Sound}
 use Rattle.cluster_core.proofs.Entries.{All-weaker}
 use Rattle.cluster_core.proofs.All.{each_more}
 use Rattle.cluster_core.proofs.Known.{Known}
 use Rattle.cluster_core.proofs.Grown.{job_grown, stored_grown, waits}
 use Rattle.cluster_core.proofs.Frames.{sound_gone}
+use Rattle.cluster_core.proofs.Touching.{Touches, same, gone}
 
--- ---- an empty container
+starts_touches : (s : Settings) (w : State) (tag : Bytes) (side : Side) (container : Bytes) (ranges : List KeyRange) → Touches s.pace w (starts s w tag side container ranges)
+starts_touches s w tag side container ranges = go _
+  where
+    go : (b : Bool) → Touches s.pace w (cond b (moved (Err (VersionsSpent w.time)) w) (done (record w { time = w.time + s.pace; jobs = w.jobs ++ new_job tag side container ranges (w.time + s.pace) ∷ [] })))
+    go true = same s.pace w _
+    go false = record {
+      starved = λ e. cc;
+      since = omega arith;
+      upto = omega arith;
+      src = inl refl;
+      dst = inl refl;
+      jobs = inr (inr (record { job = new_job tag side container ranges (w.time + s.pace); is = refl }));
+      files = inl refl;
+    }
+
+over_touches : (s : Settings) (w : State) (tag : Bytes) (side : Side) (container : Bytes) (ranges : List KeyRange) (names : List Bytes) → Touches s.pace w (open_over s w tag side container ranges names)
+over_touches s w tag side container ranges [] = starts_touches s w tag side container ranges
+over_touches s w tag side container ranges (name ∷ names) = gone s.pace w _
+
+listed_touches : (s : Settings) (w : State) (tag : Bytes) (side : Side) (container : Bytes) (ranges : List KeyRange) (luck : Luck) → Touches s.pace w (open_listed s w tag side container ranges luck)
+listed_touches s w tag side container ranges (Fine said) = over_touches s w tag side container ranges (names_listed container w.files (names_said said))
+listed_touches s w tag side container ranges FailsOld = same s.pace w _
+listed_touches s w tag side container ranges FailsNew = same s.pace w _
+listed_touches s w tag side container ranges Starved = same s.pace w _
+
+untaken_touches : (s : Settings) (w : State) (tag : Bytes) (side : Side) (container : Bytes) (ranges : List KeyRange) (luck : Luck) (o : Option Job) → Touches s.pace w (open_untaken s w tag side container ranges luck o)
+untaken_touches s w tag side container ranges luck (Some job) = gone s.pace w _
+untaken_touches s w tag side container ranges luck None = listed_touches s w tag side container ranges luck
+
+pub open_touches : (s : Settings) (w : State) (tag : Bytes) (side : Side) (container : Bytes) (ranges : List KeyRange) (luck : Luck) → Touches s.pace w (open_job s w tag side container ranges luck)
+open_touches s w tag side container ranges luck = go (is_busy (newest tag w.jobs))
+  where
+    go : (b : Bool) → Touches s.pace w (cond b (refuses (TagBusy tag) w) (open_untaken s w tag side container ranges luck (started_in container w.jobs)))
+    go true = gone s.pace w _
+    go false = untaken_touches s w tag side container ranges luck (started_in container w.jobs)
 
 no_names : {X : Type 0} (f : X → Bytes) (xs : List X) → map f xs ≡ [] → xs ≡ []
 no_names f [] e = refl
@@ -70,8 +118,6 @@ empty_stored k block now tickets version history files tag side container ranges
       there = tt;
       listed = λ name bytes names f l. absurd (none_there k container name bytes files none f);
     }
-
--- ---- the new job
 
 nothing_logged : (version now : ℕ) (ranges : List KeyRange) (history : List Entry) → now < version → AllByRecursion (λ (x : Entry). x.version ≤ now) history → AreLoggable ranges version history
 nothing_logged version now ranges history l a = All-weaker (λ (x : Entry). x.version ≤ now) (λ (x : Entry). version ≤ x.version → length (mutations_spelling (all_clipped ranges x.muts)) < 2 ^ 32) history (λ x h b. absurd (omega arith)) a
@@ -148,8 +194,6 @@ sound_more k p w tag side container ranges version h l m i none empty =
   where
     same : (n : ℕ) → n ≤ n
     same n = omega arith
-
--- ---- the command
 
 starts_keeps : (k : Known) (p : Workload) (w : State) (tag : Bytes) (side : Side) (container : Bytes) (ranges : List KeyRange) → Sound p w → IsOpening tag container ranges → started_in container w.jobs ≡ None → ((files : List File) → w.files ≡ Some files → names_inside container files ≡ []) → Sound p (starts p.settings w tag side container ranges).state
 starts_keeps k p w tag side container ranges h i none empty = go (nat_lt most_version (w.time + p.settings.pace)) refl

@@ -1,0 +1,42 @@
+-- The event begin.
+use Rattle.std.specs.Prelude.{◌≡◌, ℕ, List, Option, Some, None, refl}
+use Rattle.std.proofs.Common.{arith, inl}
+use Rattle.fb_bytes.specs.Options.{◌>>=◌}
+use Rattle.workload_text.specs.declared.Workload.{Workload}
+use Rattle.client_core.specs.Clients.{ClientState, begun_client, next_ops}
+use Rattle.cluster_core.specs.State.{State, client_at, put_client}
+use Rattle.cluster_core.specs.events.Begin.{begin_with}
+use Rattle.mutations.specs.declared.TxOp.{TxOp}
+use Rattle.std.specs.Prelude.{◌≡◌, ℕ, List, Option, Some, None, refl}
+use Rattle.std.proofs.Common.{◌∙◌, arith}
+use Rattle.client_core.specs.Clients.{ClientState, begun_at, begun_client, next_ops}
+use Rattle.cluster_core.specs.State.{State, client_at, put_client}
+use Rattle.cluster_core.specs.Sound.{IsClientSound, Sound}
+use Rattle.cluster_core.proofs.Lists.{scripts_put, each_put}
+use Rattle.cluster_core.proofs.Touching.{Touches, same}
+
+pub begin_touches : (pace : ℕ) (w : State) (n : ℕ) (o : Option ClientState) → Touches pace w (begin_with w n o)
+begin_touches pace w n None = same pace w _
+begin_touches pace w n (Some client) = record { starved = λ e. cc; since = omega arith; upto = omega arith; src = inl refl; dst = inl refl; jobs = inl refl; files = inl refl }
+
+-- one client begins, and all else stands
+begun_keeps : (p : Workload) (w : State) (n : ℕ) (c : ClientState) (time : ℕ) → client_at w.clients n ≡ Some c → Sound p w → Sound p (record w { clients = put_client w.clients n (record c { begun = Some time }) })
+begun_keeps p w n c time at h = record {
+  clock = h.clock;
+  databases = h.databases;
+  clients = record {
+    scripts_are = scripts_put w.clients n c (record c { begun = Some time }) at refl ∙ h.clients.scripts_are;
+    each = each_put (λ m d. IsClientSound w.src w.dst m d) w.clients n c (record c { begun = Some time }) at (let k = h.clients.each n c at in record { numbered = k.numbered; placed = k.placed; legal = k.legal; apart = k.apart }) (λ m d _ e. h.clients.each m d e);
+  };
+  jobs = h.jobs;
+  containers = h.containers;
+}
+
+begin_keeps : (p : Workload) (w : State) (n : ℕ) (c : ClientState) (begun : Option ℕ) (ops : Option (List TxOp)) → client_at w.clients n ≡ Some c → Sound p w → Sound p (begin_with w n (begun_at w.time c begun ops)).state
+begin_keeps p w n c None (Some ops) at h = begun_keeps p w n c w.time at h
+begin_keeps p w n c None None at h = h
+begin_keeps p w n c (Some read) ops at h = h
+
+pub begin_of_keeps : (p : Workload) (w : State) (n : ℕ) (o : Option ClientState) → client_at w.clients n ≡ o → Sound p w → Sound p (begin_with w n (o >>= begun_client w.time)).state
+begin_of_keeps p w n None at h = h
+begin_of_keeps p w n (Some c) at h = begin_keeps p w n c c.begun (next_ops c) at h

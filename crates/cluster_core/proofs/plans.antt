@@ -1,0 +1,4 @@
+pub mod Operator
+pub mod Put
+pub mod Abort
+pub mod Start

@@ -1,0 +1,7 @@
+pub mod Shared
+pub mod Open
+pub mod Dump
+pub mod Cut
+pub mod Seal
+pub mod Abort
+pub mod Status
