@@ -1,6 +1,18 @@
 -- The pieces that a batch is cut to.
-use Rattle.std.specs.Prelude.{ℕ, zero, suc, ◌+◌, List, [], ◌∷◌, length, take, drop, nat_le}
-use Rattle.std.specs.Prelude.{if◌then◌else◌}
+use Rattle.std.specs.Prelude.{
+  ℕ,
+  zero,
+  suc,
+  ◌+◌,
+  List,
+  [],
+  ◌∷◌,
+  length,
+  take,
+  drop,
+  nat_le,
+  if◌then◌else◌,
+}
 use Rattle.fb_bytes.specs.Bytes.{Bytes}
 
 -- bytes cut at multiples of a length; the first number is never used up
