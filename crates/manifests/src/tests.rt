@@ -1,5 +1,5 @@
 use super::*;
-use file_names::{Name, parse};
+use file_names::parse;
 use std::test::Fail;
 
 /// The manifest of one range file.
@@ -22,19 +22,6 @@ fn smallest_manifest(rt: HostRuntime) -> Result<(), Fail> {
     assert_eq!(rt; file.as_str(), "kvranges/snapshot.20/0/range,20,1,256");
     let text = write(alloc, &manifest)?;
     assert_eq!(rt; text.as_slice(), smallest().as_bytes());
-    Ok(())
-}
-
-/// Version 100 stands before version 20.
-#[test]
-fn files_in_byte_order(rt: HostRuntime) -> Result<(), Fail> {
-    let alloc = rt.alloc();
-    let text =
-        r#"{"beginVersion":20,"endVersion":100,"files":["kvranges/snapshot.100/0/range,100,1,256","kvranges/snapshot.100/0/range,20,2,256"],"format":1,"totalBytes":46}"#;
-    let name = parse(b"snapshots/snapshot,20,100,46,3");
-    let manifest = read(alloc, text.as_bytes(), &name)?;
-    let copy = manifest.copy()?;
-    assert_eq!(rt; (copy.begin, copy.end, copy.files.len()), (20, 100, 2));
     Ok(())
 }
 
@@ -84,20 +71,6 @@ fn faults(rt: HostRuntime) {
     let name = parse(b"snapshots/snapshot,20,20,23,3");
     for (text, fault) in rows {
         assert_eq!(rt; read(rt.alloc(), text, &name).err(), Some(fault));
-    }
-}
-
-#[test]
-fn words_of_fields(rt: HostRuntime) {
-    let rows = [
-        (Field::BeginVersion, "beginVersion"),
-        (Field::EndVersion, "endVersion"),
-        (Field::Files, "files"),
-        (Field::Format, "format"),
-        (Field::TotalBytes, "totalBytes"),
-    ];
-    for (field, word) in rows {
-        assert_eq!(rt; field.word(), word);
     }
 }
 

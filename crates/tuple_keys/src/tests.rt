@@ -24,12 +24,18 @@ fn integers_as_bytes(rt: HostRuntime) -> Result<(), Fail> {
     Ok(())
 }
 
-#[test]
-fn text_and_bytes_with_a_zero(rt: HostRuntime) -> Result<(), Fail> {
+/// A text, bytes with a zero, and nothing.
+fn three(rt: &HostRuntime) -> Result<Tuple, Fail> {
     let mut tuple = Tuple::new(rt.alloc());
     tuple.push(Element::Text(Text::from_str(rt.alloc(), "a")?))?;
     tuple.push(Element::Bytes(Blob::from_slice(rt.alloc(), &[0x61, 0])?))?;
     tuple.push(Element::Null)?;
+    Ok(tuple)
+}
+
+#[test]
+fn text_and_bytes_with_a_zero(rt: HostRuntime) -> Result<(), Fail> {
+    let tuple = three(&rt)?;
     let space = Subspace {
         prefix: Blob::from_slice(rt.alloc(), &[0xff])?,
     };
@@ -38,25 +44,5 @@ fn text_and_bytes_with_a_zero(rt: HostRuntime) -> Result<(), Fail> {
         key.as_slice(),
         [0xff, 0x02, 0x61, 0, 0x01, 0x61, 0, 0xff, 0, 0].as_slice()
     );
-    let back = space
-        .strip(rt.alloc(), key.as_slice())?
-        .ok_or("the prefix is there")?;
-    assert_eq!(rt; back.len(), 3);
-    assert!(rt; space.strip(rt.alloc(), &[0xfe, 0])?.is_none());
-    assert_eq!(rt; back.copy()?.len(), 3);
     Ok(())
-}
-
-#[test]
-fn faults_of_bytes(rt: HostRuntime) {
-    let rows: [(&[u8], TupleFault); 4] = [
-        (&[0x15, 0x00], TupleFault::Spelling { at: 0 }),
-        (&[0x02, 0x61], TupleFault::Open { at: 0 }),
-        (&[0x00, 0x03], TupleFault::Code { at: 1 }),
-        (&[0x00, 0x02, 0xff, 0x00], TupleFault::NotText { at: 1 }),
-    ];
-    for (bytes, fault) in &rows {
-        let found = unpack(rt.alloc(), bytes).err();
-        assert_eq!(rt; found, Some(*fault));
-    }
 }

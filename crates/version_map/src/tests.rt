@@ -10,13 +10,19 @@ fn range(alloc: Global, begin: &[u8], end: &[u8]) -> Result<KeyRange, AllocError
     })
 }
 
+/// The version 10 on `a` to `t` in two sets, and 20 on `c` to `d`. The last set has no keys.
+fn four_sets(alloc: Global) -> Result<VersionMap, AllocError> {
+    let mut map = VersionMap::new(alloc);
+    map.set(&range(alloc, b"a", b"m")?, 10)?;
+    map.set(&range(alloc, b"m", b"t")?, 10)?;
+    map.set(&range(alloc, b"c", b"d")?, 20)?;
+    map.set(&range(alloc, b"x", b"b")?, 30)?;
+    Ok(map)
+}
+
 #[test]
 fn the_last_set_stands_in_pieces(rt: HostRuntime) -> Result<(), Fail> {
-    let mut map = VersionMap::new(rt.alloc());
-    map.set(&range(rt.alloc(), b"a", b"m")?, 10)?;
-    map.set(&range(rt.alloc(), b"m", b"t")?, 10)?;
-    map.set(&range(rt.alloc(), b"c", b"d")?, 20)?;
-    map.set(&range(rt.alloc(), b"x", b"b")?, 30)?;
+    let map = four_sets(rt.alloc())?;
     for (key, version) in [
         (b"a", Some(10)),
         (b"b", Some(10)),

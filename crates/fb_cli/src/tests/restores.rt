@@ -430,33 +430,6 @@ fn takes_the_longer_log(alloc: Global) -> Result<bool, AllocError> {
 }
 
 #[test]
-fn words_of_another_form_are_not_built(rt: HostRuntime) -> Result<(), Fail> {
-    let rows: [&[&str]; 9] = [
-        &["restore"],
-        &["restore", "box"],
-        &["restore", "box", "20", "x"],
-        &["restored", "box", "20"],
-        &["restore", "-b", "20"],
-        &["restore", "b/x", "20"],
-        &["restore", "box", "020"],
-        &["restore", "box", "4611686018427387905"],
-        &["restore", "box", ""],
-    ];
-    for words in rows {
-        assert!(rt; is_unknown(rt.alloc(), words)?);
-    }
-    Ok(())
-}
-
-// Whether these words aren't built.
-fn is_unknown(alloc: Global, words: &[&str]) -> Result<bool, AllocError> {
-    let vault = MemVault::new(alloc, &Files::new(alloc), &[])?;
-    let mut sink = MemSink::new(alloc, 100, &[])?;
-    let exit = called(alloc, words, vault, &mut sink)?;
-    Ok(exit.status == 15 && fb_bytes::is_same(sink.written().as_slice(), b"refused not-built 0\n"))
-}
-
-#[test]
 fn each_failing_call_of_the_store_is_a_refusal(rt: HostRuntime) -> Result<(), Fail> {
     for call in [1, 2, 3, 4] {
         assert!(rt; is_store_fault(rt.alloc(), call)?);
