@@ -27,20 +27,22 @@ fn links_of(alloc: Global, names: &Names, from: u64, to: u64) -> Result<Option<u
     }
 }
 
+/// Spans, and how many links their chain has.
+const CHAINS: &[(u64, u64, Option<usize>)] = &[
+    (10, 21, Some(1)),
+    (10, 31, Some(2)),
+    (20, 31, Some(1)),
+    (12, 12, Some(0)),
+    (40, 45, Some(1)),
+    (10, 32, None),
+    (9, 21, None),
+];
+
 #[test]
 fn a_chain_takes_the_log_with_the_greatest_end(rt: HostRuntime) -> Result<(), Fail> {
     let names = names(rt.alloc(), &FILES)?;
-    let rows: [(u64, u64, Option<usize>); 7] = [
-        (10, 21, Some(1)),
-        (10, 31, Some(2)),
-        (20, 31, Some(1)),
-        (12, 12, Some(0)),
-        (40, 45, Some(1)),
-        (10, 32, None),
-        (9, 21, None),
-    ];
-    for (from, to, wanted) in rows {
-        assert_eq!(rt; links_of(rt.alloc(), &names, from, to)?, wanted);
+    for (from, to, wanted) in CHAINS {
+        assert_eq!(rt; links_of(rt.alloc(), &names, *from, *to)?, *wanted);
     }
     Ok(())
 }

@@ -352,135 +352,142 @@ fn joined(alloc: Global, pieces: &[&[u8]]) -> Result<Vec<u8>, AllocError> {
     Ok(text)
 }
 
+// The store's call that fails, the status, and what is said.
+const FAILING_CALLS: &[(u64, u8, &[u8])] = &[
+    (
+        1,
+        0,
+        b"op open -> vault-fault\n\
+          op open -> done\n\
+          op dump -> placed box/kvranges/snapshot.10/0/range,10,1,256\n\
+          op cut -> placed box/logs/0/log,10,11,2,256\n\
+          job 1 default hand running\n\
+          end 10\n",
+    ),
+    (
+        2,
+        0,
+        b"op open -> done\n\
+          op dump -> vault-fault\n\
+          op dump -> placed box/kvranges/snapshot.10/0/range,10,1,256\n\
+          op cut -> placed box/logs/0/log,10,11,2,256\n\
+          job 1 default hand running\n\
+          end 10\n",
+    ),
+    (
+        3,
+        0,
+        b"op open -> done\n\
+          op dump -> placed box/kvranges/snapshot.10/0/range,10,1,256\n\
+          op cut -> vault-fault\n\
+          op cut -> placed box/logs/0/log,10,11,2,256\n\
+          job 1 default hand running\n\
+          end 10\n",
+    ),
+    (
+        4,
+        5,
+        b"op open -> done\n\
+          op dump -> placed box/kvranges/snapshot.10/0/range,10,1,256\n\
+          op cut -> placed box/logs/0/log,10,11,2,256\n\
+          op seal -> vault-fault\n\
+          job 1 default hand running\n\
+          end 10\n\
+          refused vault-fault\n",
+    ),
+];
+
 // The operator stays at a command whose call on the store failed.
 #[test]
 fn a_failing_store_is_a_line_and_in_the_last_event_the_status(rt: HostRuntime) -> Result<(), Fail> {
-    let rows: [(u64, u8, &[u8]); 4] = [
-        (
-            1,
-            0,
-            b"op open -> vault-fault\n\
-              op open -> done\n\
-              op dump -> placed box/kvranges/snapshot.10/0/range,10,1,256\n\
-              op cut -> placed box/logs/0/log,10,11,2,256\n\
-              job 1 default hand running\n\
-              end 10\n",
-        ),
-        (
-            2,
-            0,
-            b"op open -> done\n\
-              op dump -> vault-fault\n\
-              op dump -> placed box/kvranges/snapshot.10/0/range,10,1,256\n\
-              op cut -> placed box/logs/0/log,10,11,2,256\n\
-              job 1 default hand running\n\
-              end 10\n",
-        ),
-        (
-            3,
-            0,
-            b"op open -> done\n\
-              op dump -> placed box/kvranges/snapshot.10/0/range,10,1,256\n\
-              op cut -> vault-fault\n\
-              op cut -> placed box/logs/0/log,10,11,2,256\n\
-              job 1 default hand running\n\
-              end 10\n",
-        ),
-        (
-            4,
-            5,
-            b"op open -> done\n\
-              op dump -> placed box/kvranges/snapshot.10/0/range,10,1,256\n\
-              op cut -> placed box/logs/0/log,10,11,2,256\n\
-              op seal -> vault-fault\n\
-              job 1 default hand running\n\
-              end 10\n\
-              refused vault-fault\n",
-        ),
-    ];
-    for (store, status, said) in rows {
-        let failing = Failing { store, ..NONE };
-        assert!(rt; ends(rt.alloc(), FOUR_COMMANDS, failing, status, said)?);
+    for (store, status, said) in FAILING_CALLS {
+        let failing = Failing {
+            store: *store,
+            ..NONE
+        };
+        assert!(rt; ends(rt.alloc(), FOUR_COMMANDS, failing, *status, said)?);
     }
     Ok(())
 }
 
+// Texts with commands that are refused, and what is said.
+const REFUSED: &[(&[u8], &[u8])] = &[
+    // no job has the tag
+    (
+        b"block 256\n\
+          pace 10\n\
+          operator\n\
+          dump default \\e \\xff\n\
+          status default\n\
+          schedule\n\
+          op\n\
+          op\n\
+          op\n",
+        b"op dump -> refused no-job default\n\
+          op status -> never-ran\n\
+          op -> none\n\
+          end 0\n",
+    ),
+    // a job was started in the container
+    (
+        b"block 256\n\
+          pace 10\n\
+          operator\n\
+          open one src box\n\
+          open two src box\n\
+          schedule\n\
+          op\n\
+          op\n",
+        b"op open -> done\n\
+          op open -> refused container-taken one\n\
+          job 1 one hand running\n\
+          end 10\n",
+    ),
+    // nothing was dumped
+    (
+        b"block 256\n\
+          pace 10\n\
+          operator\n\
+          open one src box\n\
+          seal one\n\
+          schedule\n\
+          op\n\
+          op\n",
+        b"op open -> done\n\
+          op seal -> refused untiled \\e\n\
+          job 1 one hand running\n\
+          end 10\n",
+    ),
+    // two jobs, of which one is ended
+    (
+        b"block 256\n\
+          pace 10\n\
+          operator\n\
+          open one src box\n\
+          open two dst cask\n\
+          dump two \\e \\xff\n\
+          abort one\n\
+          status one\n\
+          schedule\n\
+          op\n\
+          op\n\
+          op\n\
+          op\n\
+          op\n",
+        b"op open -> done\n\
+          op open -> done\n\
+          op dump -> placed cask/kvranges/snapshot.20/0/range,20,1,256\n\
+          op abort -> done\n\
+          op status -> aborted\n\
+          job 1 one hand aborted\n\
+          job 2 two hand running\n\
+          end 20\n",
+    ),
+];
+
 #[test]
 fn a_refused_command_is_a_line(rt: HostRuntime) -> Result<(), Fail> {
-    let rows: [(&[u8], &[u8]); 4] = [
-        // no job has the tag
-        (
-            b"block 256\n\
-              pace 10\n\
-              operator\n\
-              dump default \\e \\xff\n\
-              status default\n\
-              schedule\n\
-              op\n\
-              op\n\
-              op\n",
-            b"op dump -> refused no-job default\n\
-              op status -> never-ran\n\
-              op -> none\n\
-              end 0\n",
-        ),
-        // a job was started in the container
-        (
-            b"block 256\n\
-              pace 10\n\
-              operator\n\
-              open one src box\n\
-              open two src box\n\
-              schedule\n\
-              op\n\
-              op\n",
-            b"op open -> done\n\
-              op open -> refused container-taken one\n\
-              job 1 one hand running\n\
-              end 10\n",
-        ),
-        // nothing was dumped
-        (
-            b"block 256\n\
-              pace 10\n\
-              operator\n\
-              open one src box\n\
-              seal one\n\
-              schedule\n\
-              op\n\
-              op\n",
-            b"op open -> done\n\
-              op seal -> refused untiled \\e\n\
-              job 1 one hand running\n\
-              end 10\n",
-        ),
-        // two jobs, of which one is ended
-        (
-            b"block 256\n\
-              pace 10\n\
-              operator\n\
-              open one src box\n\
-              open two dst cask\n\
-              dump two \\e \\xff\n\
-              abort one\n\
-              status one\n\
-              schedule\n\
-              op\n\
-              op\n\
-              op\n\
-              op\n\
-              op\n",
-            b"op open -> done\n\
-              op open -> done\n\
-              op dump -> placed cask/kvranges/snapshot.20/0/range,20,1,256\n\
-              op abort -> done\n\
-              op status -> aborted\n\
-              job 1 one hand aborted\n\
-              job 2 two hand running\n\
-              end 20\n",
-        ),
-    ];
-    for (text, said) in rows {
+    for (text, said) in REFUSED {
         assert!(rt; ends(rt.alloc(), text, NONE, 0, said)?);
     }
     Ok(())
@@ -517,27 +524,28 @@ fn leaves_a_file(alloc: Global) -> Result<bool, AllocError> {
 }
 
 // A source that fails, a sink that fails, and texts that aren't built.
+const ENDINGS: &[(&[u8], Failing, u8, &[u8])] = &[
+    (
+        SMALLEST,
+        Failing { source: 1, ..NONE },
+        3,
+        b"refused source-fault\n",
+    ),
+    (
+        SMALLEST,
+        Failing { source: 2, ..NONE },
+        3,
+        b"refused source-fault\n",
+    ),
+    (SMALLEST, Failing { sink: 1, ..NONE }, 4, b""),
+    (b"", NONE, 15, b"refused not-built 1\n"),
+    (b"block 256\npace 9\n", NONE, 15, b"refused not-built 2\n"),
+];
+
 #[test]
 fn each_other_ending_has_its_line(rt: HostRuntime) -> Result<(), Fail> {
-    let rows: [(&[u8], Failing, u8, &[u8]); 5] = [
-        (
-            SMALLEST,
-            Failing { source: 1, ..NONE },
-            3,
-            b"refused source-fault\n",
-        ),
-        (
-            SMALLEST,
-            Failing { source: 2, ..NONE },
-            3,
-            b"refused source-fault\n",
-        ),
-        (SMALLEST, Failing { sink: 1, ..NONE }, 4, b""),
-        (b"", NONE, 15, b"refused not-built 1\n"),
-        (b"block 256\npace 9\n", NONE, 15, b"refused not-built 2\n"),
-    ];
-    for (text, failing, status, said) in rows {
-        assert!(rt; ends(rt.alloc(), text, failing, status, said)?);
+    for (text, failing, status, said) in ENDINGS {
+        assert!(rt; ends(rt.alloc(), text, *failing, *status, said)?);
     }
     Ok(())
 }

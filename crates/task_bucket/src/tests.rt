@@ -24,11 +24,13 @@ fn uid_of(lease: &Option<Lease>) -> u64 {
     }
 }
 
+// A time, a pick, and the uid that is claimed then; 0 is none.
+const CLAIMS: &[(u32, u64, u64)] = &[(0, 4, 2), (10, 4, 5), (99, 4, 0), (100, 0, 2)];
+
 #[test]
 fn claims_one_after_the_other(rt: HostRuntime) -> Result<(), Fail> {
     let mut bucket = awake(&rt)?;
-    let rows: [(u32, u64, u64); 4] = [(0, 4, 2), (10, 4, 5), (99, 4, 0), (100, 0, 2)];
-    for (now, pick, uid) in &rows {
+    for (now, pick, uid) in CLAIMS {
         let lease = claimed(&mut bucket, *now, *pick)?;
         assert_eq!(rt; uid_of(&lease), *uid);
     }

@@ -2,6 +2,15 @@ use super::*;
 use fb_bytes::{Blob, Text};
 use std::test::*;
 
+/// Integers, and the bytes that they are packed as.
+const NUMBERS: &[(i32, &[u8])] = &[
+    (0, &[0x14]),
+    (255, &[0x15, 0xff]),
+    (256, &[0x16, 0x01, 0x00]),
+    (-1, &[0x13, 0xfe]),
+    (-256, &[0x12, 0xfe, 0xff]),
+];
+
 fn int(rt: &HostRuntime, number: i32) -> Result<Blob, Fail> {
     let mut tuple = Tuple::new(rt.alloc());
     tuple.push(Element::Int(i128::from(number)))?;
@@ -10,14 +19,7 @@ fn int(rt: &HostRuntime, number: i32) -> Result<Blob, Fail> {
 
 #[test]
 fn integers_as_bytes(rt: HostRuntime) -> Result<(), Fail> {
-    let rows: [(i32, &[u8]); 5] = [
-        (0, &[0x14]),
-        (255, &[0x15, 0xff]),
-        (256, &[0x16, 0x01, 0x00]),
-        (-1, &[0x13, 0xfe]),
-        (-256, &[0x12, 0xfe, 0xff]),
-    ];
-    for (number, bytes) in &rows {
+    for (number, bytes) in NUMBERS {
         let packed = int(&rt, *number)?;
         assert_eq!(rt; packed.as_slice(), *bytes);
     }

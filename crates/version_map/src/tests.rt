@@ -20,33 +20,38 @@ fn four_sets(alloc: Global) -> Result<VersionMap, AllocError> {
     Ok(map)
 }
 
+/// The version at each of some keys.
+const AT: &[(&[u8], Option<u64>)] = &[
+    (b"a", Some(10)),
+    (b"b", Some(10)),
+    (b"c", Some(20)),
+    (b"d", Some(10)),
+    (b"m", Some(10)),
+    (b"t", None),
+    (b"A", None),
+];
+
+/// The pieces from `b` to `z`.
+const PIECES: &[(&[u8], &[u8], Option<u64>)] = &[
+    (b"b", b"c", Some(10)),
+    (b"c", b"d", Some(20)),
+    (b"d", b"m", Some(10)),
+    (b"m", b"t", Some(10)),
+    (b"t", b"z", None),
+];
+
 #[test]
 fn the_last_set_stands_in_pieces(rt: HostRuntime) -> Result<(), Fail> {
     let map = four_sets(rt.alloc())?;
-    for (key, version) in [
-        (b"a", Some(10)),
-        (b"b", Some(10)),
-        (b"c", Some(20)),
-        (b"d", Some(10)),
-        (b"m", Some(10)),
-        (b"t", None),
-        (b"A", None),
-    ] {
-        assert_eq!(rt; map.at(key), version, "{key:?}");
+    for (key, version) in AT {
+        assert_eq!(rt; map.at(key), *version);
     }
     let parts = map.pieces(&range(rt.alloc(), b"b", b"z")?)?;
-    let rows: [(&[u8], &[u8], Option<u64>); 5] = [
-        (b"b", b"c", Some(10)),
-        (b"c", b"d", Some(20)),
-        (b"d", b"m", Some(10)),
-        (b"m", b"t", Some(10)),
-        (b"t", b"z", None),
-    ];
-    assert_eq!(rt; parts.len(), rows.len());
-    for (part, (begin, end, version)) in parts.as_slice().iter().zip(rows) {
-        assert!(rt; part.range.begin.as_slice() == begin, "{begin:?}");
-        assert!(rt; part.range.end.as_slice() == end, "{begin:?}");
-        assert_eq!(rt; part.version, version, "{begin:?}");
+    assert_eq!(rt; parts.len(), PIECES.len());
+    for (part, (begin, end, version)) in parts.as_slice().iter().zip(PIECES) {
+        assert!(rt; part.range.begin.as_slice() == *begin);
+        assert!(rt; part.range.end.as_slice() == *end);
+        assert_eq!(rt; part.version, *version);
     }
     Ok(())
 }
