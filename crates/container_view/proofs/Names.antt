@@ -1,8 +1,7 @@
 -- What names tell: the best log by one pass from the left, and chains.
-use Rattle.std.proofs.Common.{◌≡◌, ℕ, zero, suc, ◌-◌, ◌+◌, ◌<◌, ◌≤◌, Bool, true, false, cond, ◌&&◌, ◌||◌, ◌==◌, max, min, is_some, List, [], ◌∷◌, ◌++◌, map, Option, Some, None, option_map, if◌then◌else◌, refl, sym, ap, ◌∙◌, nat_le, nat_lt, arith, append_assoc}
+use Rattle.std.proofs.Common.{◌≡◌, ℕ, zero, suc, ◌-◌, ◌+◌, ◌<◌, ◌≤◌, Bool, true, false, cond, ◌&&◌, ◌||◌, ◌==◌, max, min, is_some, List, [], ◌∷◌, ◌++◌, length, take, get_or, map, Option, Some, None, option_map, if◌then◌else◌, refl, sym, ap, ◌∙◌, nat_le, nat_lt, arith, append_assoc}
 use Rattle.std.proofs.lemmas.Bool.{false_from_ne_true, lt-leb, lt-ltb, ltb-true}
-use Rattle.std.proofs.lemmas.Grind.{flat_map-append}
-use Rattle.std.proofs.lemmas.List.{append-nil, map-append}
+use Rattle.std.proofs.lemmas.List.{map-append}
 use Rattle.fb_bytes.specs.Bytes.{Bytes}
 use Rattle.fb_bytes.specs.Options.{◌>>=◌, better_of, best_of}
 use Rattle.fb_outside.specs.declared.File.{File}
@@ -18,7 +17,9 @@ use Rattle.container_view.specs.Files.{Grammars, as_log, as_manifest, range_file
 use Rattle.container_view.specs.Names.{Link, as_named_log, logs_named, as_named_manifest, manifests_named, folder_named, manifest_name, link_of, named_links, chain_named, AreNamesOf, NamesLaw, seen}
 use Rattle.container_view.specs.inner.Names.{first_of, seen_manifest, better_manifest, given_named}
 use Rattle.container_view.specs.declared.logs.Run.{Run}
-use Rattle.container_view.specs.inner.Listed.{reach_in}
+use Rattle.container_view.specs.declared.sorting.NamedManifest.{NamedManifest}
+use Rattle.container_view.specs.inner.Listed.{reach_in, manifest_of, manifests_of}
+use Rattle.mutations.proofs.Lengths.{take_item}
 use Rattle.fb_bytes.proofs.Options.{bind_some}
 use Rattle.container_view.proofs.Best.{IsOrder, by_end_and_name}
 use Rattle.container_view.proofs.Whole.{chain_law}
@@ -208,19 +209,11 @@ names_law g files folder e =
     let same : record { ranges = range_files g files; logs = log_files g files; manifests = manifest_files g files; unreliable = end.0 } ≡ folder = cc (end.2) in
     names_of g files folder (ap (λ (x : Folder). x.logs) same) (ap (λ (x : Folder). x.manifests) same)
 
--- ---- the best manifest and the bounds among names
+-- ---- the best manifest and the bounds, one manifest after the other
 
-manifests_last : (names : List Bytes) (name : Bytes) (said : Name) → name_of name ≡ said → manifests_named (names ++ name ∷ []) ≡ manifests_named names ++ as_named_manifest name said
-manifests_last names name said e =
-    flat_map-append (λ n. as_named_manifest n (name_of n)) names (name ∷ [])
-    ∙ ap (λ (xs : List ManifestFile). manifests_named names ++ xs) (append-nil (as_named_manifest name (name_of name)) ∙ ap (as_named_manifest name) e)
-
-manifests_same : (names : List Bytes) (name : Bytes) (said : Name) → name_of name ≡ said → as_named_manifest name said ≡ [] → manifests_named (names ++ name ∷ []) ≡ manifests_named names
-manifests_same names name said e h = manifests_last names name said e ∙ ap (λ (xs : List ManifestFile). manifests_named names ++ xs) h ∙ append-nil (manifests_named names)
-
-module _ (folder : Folder) (names : List Bytes) (name : Bytes) where
-  abbrev best_so_far : ℕ → List Bytes → Option ManifestFile
-  best_so_far version names = best_of (gives folder version) manifest_beats (manifests_named names)
+module _ (folder : Folder) where
+  abbrev best_among : ℕ → List ManifestFile → Option ManifestFile
+  best_among version ms = best_of (gives folder version) manifest_beats ms
 
   same_tests : (b c : Bool) → (b ≡ true → c ≡ true) → (c ≡ true → b ≡ true) → b ≡ c
   same_tests true c f g = sym (f refl)
@@ -241,21 +234,11 @@ module _ (folder : Folder) (names : List Bytes) (name : Bytes) where
       go false = refl
   manifest_is m o false = refl
 
-  better_manifest_is : (version : ℕ) (said : Name) → name_of name ≡ said → better_manifest (reached folder.logs) folder.unreliable version (seen_manifest (best_so_far version names)) name said ≡ seen_manifest (best_so_far version (names ++ name ∷ []))
-  better_manifest_is version (Manifest begin end size ticket) e =
-      let m : ManifestFile = record { name = name; begin = begin; end = end; content = None } in
-      ap (λ b. cond b (first_of name end (seen_manifest (best_so_far version names))) (seen_manifest (best_so_far version names))) (sym (gives_by version m))
-      ∙ manifest_is m (best_so_far version names) (gives folder version m)
-      ∙ ap seen_manifest (sym (best_last (gives folder version) manifest_beats (by_end_and_name (λ m. m.end) (λ m. m.name)) (manifests_named names) m))
-      ∙ ap (λ xs. seen_manifest (best_of (gives folder version) manifest_beats xs)) (sym (manifests_last names name (Manifest begin end size ticket) e))
-  better_manifest_is version (Range snapshot v ticket block) e = ap (λ xs. seen_manifest (best_of (gives folder version) manifest_beats xs)) (sym (manifests_same names name (Range snapshot v ticket block) e refl))
-  better_manifest_is version (Log begin end ticket block) e = ap (λ xs. seen_manifest (best_of (gives folder version) manifest_beats xs)) (sym (manifests_same names name (Log begin end ticket block) e refl))
-  better_manifest_is version Unreliable e = ap (λ xs. seen_manifest (best_of (gives folder version) manifest_beats xs)) (sym (manifests_same names name Unreliable e refl))
-  better_manifest_is version Expired e = ap (λ xs. seen_manifest (best_of (gives folder version) manifest_beats xs)) (sym (manifests_same names name Expired e refl))
-  better_manifest_is version Other e = ap (λ xs. seen_manifest (best_of (gives folder version) manifest_beats xs)) (sym (manifests_same names name Other e refl))
-
-  pub better_manifest_same : (version : ℕ) → better_manifest (reached folder.logs) folder.unreliable version (seen_manifest (best_so_far version names)) name (name_of name) ≡ seen_manifest (best_so_far version (names ++ name ∷ []))
-  better_manifest_same version = better_manifest_is version (name_of name) refl
+  pub better_last : (version : ℕ) (ms : List ManifestFile) (m : ManifestFile) → better_manifest (reached folder.logs) folder.unreliable version (seen_manifest (best_among version ms)) m ≡ seen_manifest (best_among version (ms ++ m ∷ []))
+  better_last version ms m =
+      ap (λ b. cond b (first_of m.name m.end (seen_manifest (best_among version ms))) (seen_manifest (best_among version ms))) (sym (gives_by version m))
+      ∙ manifest_is m (best_among version ms) (gives folder version m)
+      ∙ ap seen_manifest (sym (best_last (gives folder version) manifest_beats (by_end_and_name (λ m. m.end) (λ m. m.name)) ms m))
 
   wider_none : (a : Option Bounds) → wider a None ≡ a
   wider_none None = refl
@@ -274,18 +257,8 @@ module _ (folder : Folder) (names : List Bytes) (name : Bytes) where
   given_last [] m = wider_none (given folder m)
   given_last (x ∷ xs) m = ap (wider (given folder x)) (given_last xs m) ∙ wider_assoc (given folder x) (given_by folder xs) (given folder m)
 
-  given_is : (said : Name) → name_of name ≡ said → wider (given_by folder (manifests_named names)) (given_named (reached folder.logs) folder.unreliable said) ≡ given_by folder (manifests_named (names ++ name ∷ []))
-  given_is (Manifest begin end size ticket) e =
-      let m : ManifestFile = record { name = name; begin = begin; end = end; content = None } in
-      sym (ap (given_by folder) (manifests_last names name (Manifest begin end size ticket) e) ∙ given_last (manifests_named names) m)
-  given_is (Range snapshot version ticket block) e = wider_none (given_by folder (manifests_named names)) ∙ ap (given_by folder) (sym (manifests_same names name (Range snapshot version ticket block) e refl))
-  given_is (Log begin end ticket block) e = wider_none (given_by folder (manifests_named names)) ∙ ap (given_by folder) (sym (manifests_same names name (Log begin end ticket block) e refl))
-  given_is Unreliable e = wider_none (given_by folder (manifests_named names)) ∙ ap (given_by folder) (sym (manifests_same names name Unreliable e refl))
-  given_is Expired e = wider_none (given_by folder (manifests_named names)) ∙ ap (given_by folder) (sym (manifests_same names name Expired e refl))
-  given_is Other e = wider_none (given_by folder (manifests_named names)) ∙ ap (given_by folder) (sym (manifests_same names name Other e refl))
-
-  pub given_more : wider (given_by folder (manifests_named names)) (given_named (reached folder.logs) folder.unreliable (name_of name)) ≡ given_by folder (manifests_named (names ++ name ∷ []))
-  given_more = given_is (name_of name) refl
+  pub given_more : (ms : List ManifestFile) (m : ManifestFile) → wider (given_by folder ms) (given_named (reached folder.logs) folder.unreliable m) ≡ given_by folder (ms ++ m ∷ [])
+  given_more ms m = sym (given_last ms m)
 
 -- ---- what the code's loop keeps
 
@@ -305,8 +278,14 @@ onward_step names so_far version to end name h e =
 -- ---- by the runs of versions in place of the logs
 
 module _ (runs : List Run) (logs : List LogFile) (tells : (from : ℕ) → reach_in runs from ≡ reached logs from) (unreliable : ℕ) where
-  pub given_told : (said : Name) → given_named (reach_in runs) unreliable said ≡ given_named (reached logs) unreliable said
-  given_told said = λ i. given_named (λ from. tells from i) unreliable said
+  pub given_told : (m : ManifestFile) → given_named (reach_in runs) unreliable m ≡ given_named (reached logs) unreliable m
+  given_told m = λ i. given_named (λ from. tells from i) unreliable m
 
-  pub better_told : (version : ℕ) (best : Option (Bytes × ℕ)) (name : Bytes) (said : Name) → better_manifest (reach_in runs) unreliable version best name said ≡ better_manifest (reached logs) unreliable version best name said
-  better_told version best name said = λ i. better_manifest (λ from. tells from i) unreliable version best name said
+  pub better_told : (version : ℕ) (best : Option (Bytes × ℕ)) (m : ManifestFile) → better_manifest (reach_in runs) unreliable version best m ≡ better_manifest (reached logs) unreliable version best m
+  better_told version best m = λ i. better_manifest (λ from. tells from i) unreliable version best m
+
+-- ---- manifests by their names
+
+-- one more behind those so far
+pub manifests_more : (ms : List NamedManifest) (i : ℕ) (m : NamedManifest) → i < length ms → m ≡ get_or ms i m → manifests_of (take (i + 1) ms) ≡ manifests_of (take i ms) ++ manifest_of m ∷ []
+manifests_more ms i m h e = ap manifests_of (take_item ms i m h e) ∙ map-append manifest_of (take i ms) (m ∷ [])

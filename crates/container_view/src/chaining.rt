@@ -4,7 +4,8 @@ ghost use Rattle.std.specs.Prelude.{◌≡◌, ◌+◌, IfOk};
 ghost use Rattle.container_view.specs.Names.{chain_named};
 ghost use Rattle.container_view.specs.inner.Listed.{AreSorted};
 
-use crate::logs::{SortedLogs, best_at, best_logs, sorted_logs};
+use crate::logs::{best_at, best_logs};
+use crate::sorting::{SortedNames, sorted_names};
 use fb_bytes::{Names, Seq, Text, TryCopy};
 use std::alloc::{AllocError, Global};
 
@@ -62,21 +63,21 @@ pub fn chain_past(
 ) -> Result<Option<Seq<Link>>, AllocError>
     ensures { IfOk result (λ links. links ≡ chain_named names.now from (last + 1)) }
 {
-    let logs = sorted_logs(alloc, names)?;
-    sorted_chain(alloc, &logs, from, last)
+    let sorted = sorted_names(alloc, names)?;
+    sorted_chain(alloc, &sorted, from, last)
 }
 
-/// The chain of these log files from `from` until it is past `last`.
+/// The chain of the log files among names from `from` until it is past `last`.
 pub(crate) fn sorted_chain(
     alloc: Global,
-    logs: &SortedLogs<'_>,
+    sorted: &SortedNames<'_>,
     from: u64,
     last: u64,
 ) -> Result<Option<Seq<Link>>, AllocError>
-    requires { AreSorted logs.now }
-    ensures { IfOk result (λ links. links ≡ chain_named logs.now.names.now from (last + 1)) }
+    requires { AreSorted sorted.now }
+    ensures { IfOk result (λ links. links ≡ chain_named sorted.now.names.now from (last + 1)) }
 {
-    let bests = best_logs(alloc, logs)?;
+    let bests = best_logs(alloc, sorted)?;
     let mut links = Vec::new(alloc);
     let mut version = from;
     'links: while version <= last {

@@ -7,6 +7,7 @@ mod listing;
 mod logs;
 mod property;
 mod restoring;
+mod sorting;
 mod versions;
 mod view;
 

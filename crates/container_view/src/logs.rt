@@ -1,4 +1,4 @@
-//! The log files among names, in the order of their begins, and what is found there by halving.
+//! Log files in the order of their begins, and what is found there by halving.
 
 ghost use Rattle.std.specs.Prelude.{◌≡◌, ◌<◌, option_map, None, IfOk, IfSome};
 ghost use Rattle.container_view.specs.Chain as spec;
@@ -6,8 +6,8 @@ ghost use Rattle.container_view.specs.Names.{logs_named};
 ghost use Rattle.container_view.specs.inner.Listed.{IsRisingBy, log_of, log_named, plain_logs, logs_of, bests, better, best_in, runs_of, reach_in, HaveSameBest, AreSorted, TellsBest, TellsReach};
 ghost use Rattle.file_names.specs.Reading.{name_of};
 
-use fb_bytes::{Names, Text, is_below};
-use file_names::{Name, parse};
+use crate::sorting::SortedNames;
+use fb_bytes::{Text, is_below};
 use std::alloc::{AllocError, Global};
 
 /// A log file by its name.
@@ -18,13 +18,6 @@ pub(crate) struct NamedLog<'a> {
     pub end: u64,
 }
 
-/// Names, and the log files among them in the order of their begins.
-#[derive(Debug, Drop)]
-pub(crate) struct SortedLogs<'a> {
-    pub names: &'a Names,
-    pub list: Vec<NamedLog<'a>>,
-}
-
 /// Versions without a gap that log files have: from `begin` on and before `end`.
 #[derive(Debug, Drop)]
 pub(crate) struct Run {
@@ -32,35 +25,26 @@ pub(crate) struct Run {
     pub end: u64,
 }
 
-/// The log files among these names, parsed once for all that is looked up in them.
-pub(crate) fn sorted_logs(alloc: Global, names: &Names) -> Result<SortedLogs<'_>, AllocError>
-    ensures names { IfOk result (λ logs. logs.names.now ≡ names.now) }
-    ensures sorted { IfOk result AreSorted }
-{
-    let list = sorted(alloc, names.as_slice())?;
-    Ok(SortedLogs { names, list })
-}
-
 /// The log files, each with the name and the end of the one that comes first among those up to it.
 pub(crate) fn best_logs<'a>(
     alloc: Global,
-    logs: &SortedLogs<'a>,
+    sorted: &SortedNames<'a>,
 ) -> Result<Vec<NamedLog<'a>>, AllocError>
-    requires { AreSorted logs.now }
+    requires { AreSorted sorted.now }
     ensures rising { IfOk result (λ list. IsRisingBy (λ log. log.begin) 0 list.items) }
     ensures same { IfOk result
-        (λ list. TellsBest (logs_of list.items) (logs_named logs.now.names.now)) }
+        (λ list. TellsBest (logs_of list.items) (logs_named sorted.now.names.now)) }
 {
-    with_bests(alloc, &logs.list)
+    with_bests(alloc, &sorted.logs)
 }
 
 /// The runs of the versions that the log files have.
-pub(crate) fn runs(alloc: Global, logs: &SortedLogs<'_>) -> Result<Vec<Run>, AllocError>
-    requires { AreSorted logs.now }
+pub(crate) fn runs(alloc: Global, sorted: &SortedNames<'_>) -> Result<Vec<Run>, AllocError>
+    requires { AreSorted sorted.now }
     ensures rising { IfOk result (λ runs. IsRisingBy (λ run. run.begin) 0 runs.items) }
-    ensures same { IfOk result (λ runs. TellsReach runs.items (logs_named logs.now.names.now)) }
+    ensures same { IfOk result (λ runs. TellsReach runs.items (logs_named sorted.now.names.now)) }
 {
-    joined(alloc, &logs.list)
+    joined(alloc, &sorted.logs)
 }
 
 /// Of log files in the order of their begins, the name and end of the one that comes first among
@@ -92,39 +76,6 @@ pub(crate) fn reached(runs: &[Run], from: u64) -> u64
         return from;
     }
     from.max(runs[place - 1].end)
-}
-
-/// The log files among these names in the order of their begins.
-fn sorted<'a>(alloc: Global, names: &'a [Text]) -> Result<Vec<NamedLog<'a>>, AllocError>
-    ensures rising { IfOk result (λ logs. IsRisingBy (λ log. log.begin) 0 logs.items) }
-    ensures same { IfOk result (λ logs. HaveSameBest (logs_of logs.items) (logs_named names.now)) }
-{
-    let mut logs = parsed(alloc, names)?;
-    logs.sort_by_key(|log| log.begin)?;
-    Ok(logs)
-}
-
-/// The log files among these names in the order of the names.
-fn parsed<'a>(alloc: Global, names: &'a [Text]) -> Result<Vec<NamedLog<'a>>, AllocError>
-    ensures { IfOk result (λ logs. logs_of logs.items ≡ plain_logs names.now) }
-{
-    let mut logs = Vec::new(alloc);
-    'names: for name in names {
-        if let Some(log) = as_log(name) {
-            logs.push(log)?;
-        }
-    }
-    Ok(logs)
-}
-
-/// The log file of the name, where it is that of one.
-fn as_log(name: &Text) -> Option<NamedLog<'_>>
-    ensures { option_map log_of result ≡ log_named name.now (name_of name.now) }
-{
-    let Name::Log { begin, end, .. } = parse(name.as_bytes()) else {
-        return None;
-    };
-    Some(NamedLog { name, begin, end })
 }
 
 /// Each begin, with the name and the end of the log file that comes first among those up to it.

@@ -14,7 +14,7 @@ ghost use Rattle.fb_outside.specs.declared.File.{File};
 
 use crate::chaining::sorted_chain;
 use crate::listing::{in_order, is_listed};
-use crate::logs::{SortedLogs, sorted_logs};
+use crate::sorting::{SortedNames, sorted_names};
 use crate::versions::{sorted_bounds, sorted_manifest};
 use crate::{Bounds, FileFault, Link, ViewFault, get_property, list_names, whole_name};
 use fb_bytes::{Blob, Names, Seq, Text};
@@ -110,12 +110,12 @@ fn set_by<V: Vault>(
         (IsErrOf result ViewFault.VaultFault) }
     ensures called { V.calls vault.new ≤ V.calls vault.old + 1 }
 {
-    let logs = sorted_logs(alloc, names)?;
-    let Some(name) = sorted_manifest(alloc, &logs, unreliable, version)? else {
-        return Err(not_restorable(sorted_bounds(alloc, &logs, unreliable)?));
+    let sorted = sorted_names(alloc, names)?;
+    let Some(name) = sorted_manifest(alloc, &sorted, unreliable, version)? else {
+        return Err(not_restorable(sorted_bounds(alloc, &sorted, unreliable)?));
     };
     let manifest = get_manifest(alloc, vault, container, name)?;
-    set_with(alloc, &logs, manifest, version)
+    set_with(alloc, &sorted, manifest, version)
 }
 
 // The refusal of a version that isn't advertised.
@@ -178,23 +178,23 @@ fn read_manifest(alloc: Global, name: &Text, bytes: &[u8]) -> Result<Manifest, V
 // A manifest, its range files in its order, and the links that go past the version.
 fn set_with(
     alloc: Global,
-    logs: &SortedLogs<'_>,
+    sorted: &SortedNames<'_>,
     manifest: Manifest,
     version: u64,
 ) -> Result<RestoreSet, ViewFault>
-    requires { AreSorted logs.now }
+    requires { AreSorted sorted.now }
     ensures ok { IfOk result
-        (λ set. spec.set_with logs.now.names.now manifest version
-        (spec.first_unlisted logs.now.names.now manifest.files) ≡ Ok set) }
+        (λ set. spec.set_with sorted.now.names.now manifest version
+        (spec.first_unlisted sorted.now.names.now manifest.files) ≡ Ok set) }
     ensures err { IfErr result (λ fault. (fault ≡ faults.NoMemory)
-        ⊎ (spec.set_with logs.now.names.now manifest version
-        (spec.first_unlisted logs.now.names.now manifest.files) ≡ Err fault)) }
+        ⊎ (spec.set_with sorted.now.names.now manifest version
+        (spec.first_unlisted sorted.now.names.now manifest.files) ≡ Err fault)) }
 {
-    if let Some(name) = first_unlisted(alloc, logs.names, manifest.files.as_slice())? {
+    if let Some(name) = first_unlisted(alloc, sorted.names, manifest.files.as_slice())? {
         let name = name.copy()?;
         return Err(ViewFault::Missing { name });
     }
-    let links = match sorted_chain(alloc, logs, manifest.begin, version)? {
+    let links = match sorted_chain(alloc, sorted, manifest.begin, version)? {
         Some(links) => links,
         None => Seq::from_vec(Vec::new(alloc)),
     };

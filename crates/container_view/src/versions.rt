@@ -1,16 +1,15 @@
 //! The versions that a container can be restored to, from the names of its files alone.
 
 ghost use Rattle.std.specs.Prelude.{◌≡◌, ℕ, List, option_map, IfOk};
-ghost use Rattle.container_view.specs.inner.Listed.{AreSorted, IsRisingBy, reach_in};
+ghost use Rattle.container_view.specs.inner.Listed.{AreSorted, IsRisingBy, reach_in, manifest_of};
 ghost use Rattle.container_view.specs.Names.{folder_named, manifest_name};
 ghost use Rattle.container_view.specs.inner.Names.{seen_manifest, better_manifest, given_named};
 ghost use Rattle.container_view.specs.Advertised.{chosen};
 ghost use Rattle.container_view.specs.Bounds as spec;
-ghost use Rattle.file_names.specs.Reading.{name_of};
 
-use crate::logs::{Run, SortedLogs, comes_first, reached, runs, sorted_logs};
+use crate::logs::{Run, comes_first, reached, runs};
+use crate::sorting::{NamedManifest, SortedNames, sorted_names};
 use fb_bytes::{Names, Text};
-use file_names::{Name, parse};
 use std::alloc::{AllocError, Global};
 
 /// The least and the greatest version that a container can be restored to.
@@ -30,36 +29,35 @@ pub fn restorable(
     ensures { IfOk result
         (λ bounds. bounds ≡ spec.advertised_bounds (folder_named names.now unreliable)) }
 {
-    let logs = sorted_logs(alloc, names)?;
-    sorted_bounds(alloc, &logs, unreliable)
+    let sorted = sorted_names(alloc, names)?;
+    sorted_bounds(alloc, &sorted, unreliable)
 }
 
 /// The bounds of the versions that names advertise, by their log files.
 pub(crate) fn sorted_bounds(
     alloc: Global,
-    logs: &SortedLogs<'_>,
+    sorted: &SortedNames<'_>,
     unreliable: u64,
 ) -> Result<Option<Bounds>, AllocError>
-    requires { AreSorted logs.now }
+    requires { AreSorted sorted.now }
     ensures { IfOk result
-        (λ bounds. bounds ≡ spec.advertised_bounds (folder_named logs.now.names.now unreliable)) }
+        (λ bounds. bounds ≡ spec.advertised_bounds (folder_named sorted.now.names.now unreliable)) }
 {
-    let runs = runs(alloc, logs)?;
+    let runs = runs(alloc, sorted)?;
     let mut bounds = None;
-    'names: for name in logs.names.as_slice() {
-        bounds = wider(bounds, given(&runs, unreliable, name));
+    'manifests: for manifest in &sorted.manifests {
+        bounds = wider(bounds, given(&runs, unreliable, manifest));
     }
     Ok(bounds)
 }
 
-/// The bounds of the versions that a manifest gives, where the name is that of one.
-fn given(runs: &[Run], unreliable: u64, name: &Text) -> Option<Bounds>
+/// The bounds of the versions that a manifest gives.
+fn given(runs: &[Run], unreliable: u64, manifest: &NamedManifest<'_>) -> Option<Bounds>
     requires { IsRisingBy (λ run. run.begin) 0 runs.now }
-    ensures { result ≡ given_named (reach_in runs.now) unreliable (name_of name.now) }
+    ensures { result ≡ given_named (reach_in runs.now) unreliable (manifest_of manifest.now) }
 {
-    let Name::Manifest { begin, end, .. } = parse(name.as_bytes()) else {
-        return None;
-    };
+    let begin = manifest.begin;
+    let end = manifest.end;
     let reached = reached(runs, begin);
     if unreliable <= begin && (end < reached || begin == end) {
         Some(Bounds {
@@ -99,25 +97,25 @@ pub fn manifest_for<'a>(
     ensures { IfOk result (λ name. option_map (λ name. name.now) name
         ≡ manifest_name (chosen (folder_named names.now unreliable) version)) }
 {
-    let logs = sorted_logs(alloc, names)?;
-    sorted_manifest(alloc, &logs, unreliable, version)
+    let sorted = sorted_names(alloc, names)?;
+    sorted_manifest(alloc, &sorted, unreliable, version)
 }
 
 /// The name of the manifest that is restored for a version, among names, by their log files.
 pub(crate) fn sorted_manifest<'a>(
     alloc: Global,
-    logs: &SortedLogs<'a>,
+    sorted: &SortedNames<'a>,
     unreliable: u64,
     version: u64,
 ) -> Result<Option<&'a Text>, AllocError>
-    requires { AreSorted logs.now }
+    requires { AreSorted sorted.now }
     ensures { IfOk result (λ name. option_map (λ name. name.now) name
-        ≡ manifest_name (chosen (folder_named logs.now.names.now unreliable) version)) }
+        ≡ manifest_name (chosen (folder_named sorted.now.names.now unreliable) version)) }
 {
-    let runs = runs(alloc, logs)?;
+    let runs = runs(alloc, sorted)?;
     let mut best = None;
-    'names: for name in logs.names.as_slice() {
-        best = better_manifest(best, &runs, unreliable, name, version);
+    'manifests: for manifest in &sorted.manifests {
+        best = better_manifest(best, &runs, unreliable, manifest, version);
     }
     match best {
         Some((name, _)) => Ok(Some(name)),
@@ -125,23 +123,22 @@ pub(crate) fn sorted_manifest<'a>(
     }
 }
 
-/// The better of the best manifest so far and the file of one name more.
+/// The better of the best manifest so far and one more.
 fn better_manifest<'a>(
     best: Option<(&'a Text, u64)>,
     runs: &[Run],
     unreliable: u64,
-    name: &'a Text,
+    manifest: &NamedManifest<'a>,
     version: u64,
 ) -> Option<(&'a Text, u64)>
     requires { IsRisingBy (λ run. run.begin) 0 runs.now }
     ensures { option_map (λ x. (x.0.now, x.1)) result
         ≡ better_manifest (reach_in runs.now) unreliable version
-        (option_map (λ x. (x.0.now, x.1)) best.entry) name.now (name_of name.now) }
+        (option_map (λ x. (x.0.now, x.1)) best.entry) (manifest_of manifest.now) }
 {
-    let Name::Manifest { begin, end, .. } = parse(name.as_bytes()) else {
-        return best;
-    };
-    if !gives(runs, unreliable, begin, end, version) {
+    let name = manifest.name;
+    let end = manifest.end;
+    if !gives(runs, unreliable, manifest.begin, end, version) {
         return best;
     }
     let Some((other, other_end)) = best else {

@@ -89,10 +89,10 @@ fn row_bytes(alloc: Global, version: u64, part: u32, piece: &[u8]) -> Result<Vec
     ensures { IfOk result
         (λ bytes. bytes.items ≡ row_text (record { key = row_key version part; value = piece.now })) }
 {
-    let mut key = Vec::new(alloc);
+    let mut key = Vec::with_capacity(alloc, 12)?;
     key.extend_from_slice(&version.to_be_bytes())?;
     key.extend_from_slice(&part.to_be_bytes())?;
-    let mut bytes = Vec::new(alloc);
+    let mut bytes = Vec::with_capacity(alloc, piece.len() + 20)?;
     push_string(&mut bytes, &key)?;
     push_string(&mut bytes, piece)?;
     Ok(bytes)

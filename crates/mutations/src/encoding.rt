@@ -55,7 +55,7 @@ pub fn encode_batch(alloc: Global, muts: &Seq<Mutation>) -> Result<Blob, AllocEr
 {
     let muts = muts.as_slice();
     let length = mutation_bytes(muts) as u32;
-    let mut batch = Blob::new(alloc);
+    let mut batch = Blob::from_vec(Vec::with_capacity(alloc, length as usize + 12)?);
     put_u64(&mut batch, PROTOCOL)?;
     put_u32(&mut batch, length)?;
     for mutation in muts {

@@ -76,7 +76,7 @@ fn string_text(alloc: Global, string: &[u8]) -> Result<Vec<u8>, AllocError>
     requires { length string.now < 2 ^ 32 }
     ensures { IfOk result (λ bytes. bytes.items ≡ text.string string.now) }
 {
-    let mut bytes = Vec::new(alloc);
+    let mut bytes = Vec::with_capacity(alloc, string.len() + 4)?;
     push_string(&mut bytes, string)?;
     Ok(bytes)
 }
@@ -86,7 +86,7 @@ fn pair_bytes(alloc: Global, pair: &Pair) -> Result<Vec<u8>, AllocError>
     requires value { length pair.now.value < 2 ^ 32 }
     ensures { IfOk result (λ bytes. bytes.items ≡ pair_text pair.now) }
 {
-    let mut bytes = Vec::new(alloc);
+    let mut bytes = Vec::with_capacity(alloc, pair.key.len() + pair.value.len() + 8)?;
     push_string(&mut bytes, pair.key.as_slice())?;
     push_string(&mut bytes, pair.value.as_slice())?;
     Ok(bytes)
@@ -98,7 +98,7 @@ fn repeat_bytes(alloc: Global, pair: &Pair) -> Result<Vec<u8>, AllocError>
     requires value { length pair.now.value < 2 ^ 32 }
     ensures { IfOk result (λ bytes. bytes.items ≡ repeat_of (Some pair.now)) }
 {
-    let mut bytes = Vec::new(alloc);
+    let mut bytes = Vec::with_capacity(alloc, 2 * pair.key.len() + pair.value.len() + 12)?;
     push_string(&mut bytes, pair.key.as_slice())?;
     push_string(&mut bytes, pair.key.as_slice())?;
     push_string(&mut bytes, pair.value.as_slice())?;

@@ -1,4 +1,4 @@
--- The log files among names, in the order of their begins, and what is looked up in them.
+-- The log files and the manifests among names, and what is looked up in them.
 use Rattle.std.specs.Prelude.{◌≡◌, ℕ, ◌≤◌, max, List, [], ◌∷◌, map, Option, Some, None}
 use Rattle.std.specs.Prelude.{if◌then◌else◌, nat_le, nat_lt}
 use Rattle.std.specs.List.{flat_map}
@@ -9,11 +9,12 @@ use Rattle.file_names.specs.declared.Name.TheVariants.{Other}
 use Rattle.file_names.specs.Reading.{name_of}
 use Rattle.container_view.specs.declared.logs.NamedLog.{NamedLog}
 use Rattle.container_view.specs.declared.logs.Run.{Run}
-use Rattle.container_view.specs.declared.logs.SortedLogs.{SortedLogs}
-use Rattle.container_view.specs.Folder.{LogFile}
+use Rattle.container_view.specs.declared.sorting.NamedManifest.{NamedManifest}
+use Rattle.container_view.specs.declared.sorting.SortedNames.{SortedNames}
+use Rattle.container_view.specs.Folder.{LogFile, ManifestFile}
 use Rattle.container_view.specs.Chain.{comes_first, best_log}
 use Rattle.container_view.specs.Bounds.{reached}
-use Rattle.container_view.specs.Names.{seen, logs_named}
+use Rattle.container_view.specs.Names.{seen, logs_named, manifests_named}
 
 -- a log file of which the name, the begin and the end are known
 abbrev pub plain_log : Bytes → ℕ → ℕ → LogFile
@@ -27,6 +28,14 @@ log_of log = plain_log log.name.now log.begin log.end
 -- log files by their names, as a folder has them
 abbrev pub logs_of : List NamedLog → List LogFile
 logs_of logs = map log_of logs
+
+-- a manifest by its name, as a folder has it
+abbrev pub manifest_of : NamedManifest → ManifestFile
+manifest_of m = record { name = m.name.now; begin = m.begin; end = m.end; content = None }
+
+-- manifests by their names, as a folder has them
+abbrev pub manifests_of : List NamedManifest → List ManifestFile
+manifests_of manifests = map manifest_of manifests
 
 -- the log file of a name, where it is that of one
 abbrev pub log_named : Bytes → Name → Option LogFile
@@ -104,10 +113,12 @@ best_in logs version = held version (last_begun (λ log. log.begin) version None
 abbrev pub HaveSameBest : List LogFile → List LogFile → Type 0
 HaveSameBest a b = (version : ℕ) → seen (best_log a version) ≡ seen (best_log b version)
 
--- the logs stand in the order of their begins, and have the same best ones as those among the names
-pub record AreSorted (logs : SortedLogs) : Type 0 where
-  pub rising : IsRisingBy (λ log. log.begin) 0 logs.list.items
-  pub same : HaveSameBest (logs_of logs.list.items) (logs_named logs.names.now)
+-- the logs stand in the order of their begins, and have the same best ones as those among the
+-- names; the manifests are those among the names
+pub record AreSorted (sorted : SortedNames) : Type 0 where
+  pub rising : IsRisingBy (λ log. log.begin) 0 sorted.logs.items
+  pub same : HaveSameBest (logs_of sorted.logs.items) (logs_named sorted.names.now)
+  pub manifests : manifests_of sorted.manifests.items ≡ manifests_named sorted.names.now
 
 -- what is found in the first list is the best log of the second, at each version
 abbrev pub TellsBest : List LogFile → List LogFile → Type 0

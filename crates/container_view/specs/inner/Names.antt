@@ -2,9 +2,6 @@
 use Rattle.std.specs.Prelude.{ℕ, ◌-◌, max, ◌==◌, ◌&&◌, ◌||◌}
 use Rattle.std.specs.Prelude.{Option, Some, None, option_map, if◌then◌else◌, nat_le, nat_lt}
 use Rattle.fb_bytes.specs.Bytes.{Bytes}
-use Rattle.file_names.specs.declared.Name.{Name}
-use Rattle.file_names.specs.declared.Name.TheVariants.{Range, Log, Manifest, Unreliable, Expired}
-use Rattle.file_names.specs.declared.Name.TheVariants.{Other}
 use Rattle.container_view.specs.Folder.{ManifestFile}
 use Rattle.container_view.specs.Chain.{comes_first}
 use Rattle.container_view.specs.Bounds.{Bounds, is_given}
@@ -19,24 +16,14 @@ first_of name end (Some other) =
 abbrev pub seen_manifest : Option ManifestFile → Option (Bytes × ℕ)
 seen_manifest found = option_map (λ m. (m.name, m.end)) found
 
--- the best manifest that gives the version, of the best so far and one name more
+-- the best manifest that gives the version, of the best so far and one more
 abbrev pub better_manifest :
-    (ℕ → ℕ) → ℕ → ℕ → Option (Bytes × ℕ) → Bytes → Name → Option (Bytes × ℕ)
-better_manifest reach unreliable version best name (Manifest begin end size ticket) =
-    if is_given reach unreliable begin end version then first_of name end best else best
-better_manifest reach unreliable version best name (Range snapshot v ticket block) = best
-better_manifest reach unreliable version best name (Log begin end ticket block) = best
-better_manifest reach unreliable version best name Unreliable = best
-better_manifest reach unreliable version best name Expired = best
-better_manifest reach unreliable version best name Other = best
+    (ℕ → ℕ) → ℕ → ℕ → Option (Bytes × ℕ) → ManifestFile → Option (Bytes × ℕ)
+better_manifest reach unreliable version best m =
+    if is_given reach unreliable m.begin m.end version then first_of m.name m.end best else best
 
--- the bounds that one name more gives
-abbrev pub given_named : (ℕ → ℕ) → ℕ → Name → Option Bounds
-given_named reach unreliable (Manifest begin end size ticket) =
-    if nat_le unreliable begin && (nat_lt end (reach begin) || begin == end)
-    then Some (record { least = end; greatest = max end (reach begin - 1) }) else None
-given_named reach unreliable (Range snapshot version ticket block) = None
-given_named reach unreliable (Log begin end ticket block) = None
-given_named reach unreliable Unreliable = None
-given_named reach unreliable Expired = None
-given_named reach unreliable Other = None
+-- the bounds of the versions that a manifest gives, by the ends that are reached
+abbrev pub given_named : (ℕ → ℕ) → ℕ → ManifestFile → Option Bounds
+given_named reach unreliable m =
+    if nat_le unreliable m.begin && (nat_lt m.end (reach m.begin) || m.begin == m.end)
+    then Some (record { least = m.end; greatest = max m.end (reach m.begin - 1) }) else None
