@@ -2,7 +2,7 @@ mod restores;
 
 use crate::top::{Exit, top};
 use fb_bytes::{Blob, Text, is_same};
-use fb_outside::{Failed, File, Files, MemSink, MemSource, MemVault, Sink};
+use fb_outside::{File, Files, MemSink, MemSource, MemVault, Sink};
 use std::alloc::{AllocError, Global};
 use std::test::Fail;
 
@@ -74,79 +74,6 @@ const ADDS: &[u8] = b"block 256\n\
       commit 1\n\
       op\n\
       op\n";
-
-const ADDS_REPORT: &[u8] = b"op open -> done\n\
-      begin 1 -> read 10\n\
-      commit 1 -> commit 20\n\
-      op dump -> placed box/kvranges/snapshot.20/0/range,20,1,256\n\
-      begin 1 -> read 20\n\
-      commit 1 -> commit 30\n\
-      op cut -> placed box/logs/0/log,10,31,2,256\n\
-      op seal -> placed box/snapshots/snapshot,20,20,23,3\n\
-      client 1 txn 1 try 1 read 10 commit 20\n\
-      client 1 txn 2 try 1 read 20 commit 30\n\
-      entry src 20 client 1 1\n\
-      add n \\x01\n\
-      entry src 30 client 1 2\n\
-      add n \\x01\n\
-      job 1 default hand running\n\
-      end 30\n";
-
-// Two pieces of differing versions, with a clear between them that touches both; a seal comes too
-// early.
-const CLEAR: &[u8] = b"block 256\n\
-      pace 10\n\
-      client 1 src\n\
-      txn\n\
-      set c 1\n\
-      txn\n\
-      clearrange b x\n\
-      txn\n\
-      set p 2\n\
-      operator\n\
-      open default src box a z\n\
-      dump default a m\n\
-      seal default\n\
-      dump default m z\n\
-      cut default\n\
-      seal default\n\
-      schedule\n\
-      op\n\
-      begin 1\n\
-      commit 1\n\
-      op\n\
-      begin 1\n\
-      commit 1\n\
-      op\n\
-      begin 1\n\
-      commit 1\n\
-      op\n\
-      op\n\
-      op\n";
-
-const CLEAR_REPORT: &[u8] = b"op open -> done\n\
-      begin 1 -> read 10\n\
-      commit 1 -> commit 20\n\
-      op dump -> placed box/kvranges/snapshot.20/0/range,20,1,256\n\
-      begin 1 -> read 20\n\
-      commit 1 -> commit 30\n\
-      op seal -> refused untiled m\n\
-      begin 1 -> read 30\n\
-      commit 1 -> commit 40\n\
-      op dump -> placed box/kvranges/snapshot.20/0/range,40,2,256\n\
-      op cut -> placed box/logs/0/log,10,41,3,256\n\
-      op seal -> placed box/snapshots/snapshot,20,40,48,4\n\
-      client 1 txn 1 try 1 read 10 commit 20\n\
-      client 1 txn 2 try 1 read 20 commit 30\n\
-      client 1 txn 3 try 1 read 30 commit 40\n\
-      entry src 20 client 1 1\n\
-      set c 1\n\
-      entry src 30 client 1 2\n\
-      clear b x\n\
-      entry src 40 client 1 3\n\
-      set p 2\n\
-      job 1 default hand running\n\
-      end 40\n";
 
 // Four commands that call the store.
 const FOUR_COMMANDS: &[u8] = b"block 256\n\
@@ -258,35 +185,6 @@ fn the_smallest_job_is_told_and_leaves_three_files(rt: HostRuntime) -> Result<()
         (MANIFEST_NAME, MANIFEST),
     ];
     assert!(rt; leaves(rt.alloc(), SMALLEST, SMALLEST_REPORT, &files)?);
-    Ok(())
-}
-
-// So it is at later versions too.
-#[test]
-fn a_commit_at_a_dumps_version_is_in_its_file_and_in_the_log(rt: HostRuntime) -> Result<(), Fail> {
-    let range: &[u8] =
-        b"\xe9\x03\x00\x00\x00\x00\x00\x00\x00\x00\x00\x01n\x00\x00\x00\x01\x01\x00\x00\x00\x01\xff";
-    let log: &[u8] =
-        b"\xd1\x07\x00\x00\x00\x00\x00\x0c\x00\x00\x00\x00\x00\x00\x00\x14\x00\x00\x00\x00\x00\x00\x00\x1a\xbd\x1b\x00\x00\x00\x00\x00\x00\x0e\x00\x00\x00\x02\x00\x00\x00\x01\x00\x00\x00\x01\x00\x00\x00n\x01\x00\x00\x00\x0c\x00\x00\x00\x00\x00\x00\x00\x1e\x00\x00\x00\x00\x00\x00\x00\x1a\xbd\x1b\x00\x00\x00\x00\x00\x00\x0e\x00\x00\x00\x02\x00\x00\x00\x01\x00\x00\x00\x01\x00\x00\x00n\x01";
-    let files = [(RANGE_NAME, range), (b"box/logs/0/log,10,31,2,256", log)];
-    assert!(rt; leaves(rt.alloc(), ADDS, ADDS_REPORT, &files)?);
-    Ok(())
-}
-
-#[test]
-fn pieces_of_two_versions_are_sealed_once_they_tile(rt: HostRuntime) -> Result<(), Fail> {
-    let first: &[u8] =
-        b"\xe9\x03\x00\x00\x00\x00\x00\x01a\x00\x00\x00\x01c\x00\x00\x00\x011\x00\x00\x00\x01m";
-    let second: &[u8] =
-        b"\xe9\x03\x00\x00\x00\x00\x00\x01m\x00\x00\x00\x01p\x00\x00\x00\x012\x00\x00\x00\x01z";
-    let manifest: &[u8] =
-        b"{\"beginVersion\":20,\"endVersion\":40,\"files\":[\"kvranges/snapshot.20/0/range,20,1,256\",\"kvranges/snapshot.20/0/range,40,2,256\"],\"format\":1,\"totalBytes\":48}";
-    let files = [
-        (RANGE_NAME, first),
-        (b"box/kvranges/snapshot.20/0/range,40,2,256", second),
-        (b"box/snapshots/snapshot,20,40,48,4", manifest),
-    ];
-    assert!(rt; leaves(rt.alloc(), CLEAR, CLEAR_REPORT, &files)?);
     Ok(())
 }
 
@@ -454,135 +352,142 @@ fn joined(alloc: Global, pieces: &[&[u8]]) -> Result<Vec<u8>, AllocError> {
     Ok(text)
 }
 
+// The store's call that fails, the status, and what is said.
+const FAILING_CALLS: &[(u64, u8, &[u8])] = &[
+    (
+        1,
+        0,
+        b"op open -> vault-fault\n\
+          op open -> done\n\
+          op dump -> placed box/kvranges/snapshot.10/0/range,10,1,256\n\
+          op cut -> placed box/logs/0/log,10,11,2,256\n\
+          job 1 default hand running\n\
+          end 10\n",
+    ),
+    (
+        2,
+        0,
+        b"op open -> done\n\
+          op dump -> vault-fault\n\
+          op dump -> placed box/kvranges/snapshot.10/0/range,10,1,256\n\
+          op cut -> placed box/logs/0/log,10,11,2,256\n\
+          job 1 default hand running\n\
+          end 10\n",
+    ),
+    (
+        3,
+        0,
+        b"op open -> done\n\
+          op dump -> placed box/kvranges/snapshot.10/0/range,10,1,256\n\
+          op cut -> vault-fault\n\
+          op cut -> placed box/logs/0/log,10,11,2,256\n\
+          job 1 default hand running\n\
+          end 10\n",
+    ),
+    (
+        4,
+        5,
+        b"op open -> done\n\
+          op dump -> placed box/kvranges/snapshot.10/0/range,10,1,256\n\
+          op cut -> placed box/logs/0/log,10,11,2,256\n\
+          op seal -> vault-fault\n\
+          job 1 default hand running\n\
+          end 10\n\
+          refused vault-fault\n",
+    ),
+];
+
 // The operator stays at a command whose call on the store failed.
 #[test]
 fn a_failing_store_is_a_line_and_in_the_last_event_the_status(rt: HostRuntime) -> Result<(), Fail> {
-    let rows: [(u64, u8, &[u8]); 4] = [
-        (
-            1,
-            0,
-            b"op open -> vault-fault\n\
-              op open -> done\n\
-              op dump -> placed box/kvranges/snapshot.10/0/range,10,1,256\n\
-              op cut -> placed box/logs/0/log,10,11,2,256\n\
-              job 1 default hand running\n\
-              end 10\n",
-        ),
-        (
-            2,
-            0,
-            b"op open -> done\n\
-              op dump -> vault-fault\n\
-              op dump -> placed box/kvranges/snapshot.10/0/range,10,1,256\n\
-              op cut -> placed box/logs/0/log,10,11,2,256\n\
-              job 1 default hand running\n\
-              end 10\n",
-        ),
-        (
-            3,
-            0,
-            b"op open -> done\n\
-              op dump -> placed box/kvranges/snapshot.10/0/range,10,1,256\n\
-              op cut -> vault-fault\n\
-              op cut -> placed box/logs/0/log,10,11,2,256\n\
-              job 1 default hand running\n\
-              end 10\n",
-        ),
-        (
-            4,
-            5,
-            b"op open -> done\n\
-              op dump -> placed box/kvranges/snapshot.10/0/range,10,1,256\n\
-              op cut -> placed box/logs/0/log,10,11,2,256\n\
-              op seal -> vault-fault\n\
-              job 1 default hand running\n\
-              end 10\n\
-              refused vault-fault\n",
-        ),
-    ];
-    for (store, status, said) in rows {
-        let failing = Failing { store, ..NONE };
-        assert!(rt; ends(rt.alloc(), FOUR_COMMANDS, failing, status, said)?);
+    for (store, status, said) in FAILING_CALLS {
+        let failing = Failing {
+            store: *store,
+            ..NONE
+        };
+        assert!(rt; ends(rt.alloc(), FOUR_COMMANDS, failing, *status, said)?);
     }
     Ok(())
 }
 
+// Texts with commands that are refused, and what is said.
+const REFUSED: &[(&[u8], &[u8])] = &[
+    // no job has the tag
+    (
+        b"block 256\n\
+          pace 10\n\
+          operator\n\
+          dump default \\e \\xff\n\
+          status default\n\
+          schedule\n\
+          op\n\
+          op\n\
+          op\n",
+        b"op dump -> refused no-job default\n\
+          op status -> never-ran\n\
+          op -> none\n\
+          end 0\n",
+    ),
+    // a job was started in the container
+    (
+        b"block 256\n\
+          pace 10\n\
+          operator\n\
+          open one src box\n\
+          open two src box\n\
+          schedule\n\
+          op\n\
+          op\n",
+        b"op open -> done\n\
+          op open -> refused container-taken one\n\
+          job 1 one hand running\n\
+          end 10\n",
+    ),
+    // nothing was dumped
+    (
+        b"block 256\n\
+          pace 10\n\
+          operator\n\
+          open one src box\n\
+          seal one\n\
+          schedule\n\
+          op\n\
+          op\n",
+        b"op open -> done\n\
+          op seal -> refused untiled \\e\n\
+          job 1 one hand running\n\
+          end 10\n",
+    ),
+    // two jobs, of which one is ended
+    (
+        b"block 256\n\
+          pace 10\n\
+          operator\n\
+          open one src box\n\
+          open two dst cask\n\
+          dump two \\e \\xff\n\
+          abort one\n\
+          status one\n\
+          schedule\n\
+          op\n\
+          op\n\
+          op\n\
+          op\n\
+          op\n",
+        b"op open -> done\n\
+          op open -> done\n\
+          op dump -> placed cask/kvranges/snapshot.20/0/range,20,1,256\n\
+          op abort -> done\n\
+          op status -> aborted\n\
+          job 1 one hand aborted\n\
+          job 2 two hand running\n\
+          end 20\n",
+    ),
+];
+
 #[test]
 fn a_refused_command_is_a_line(rt: HostRuntime) -> Result<(), Fail> {
-    let rows: [(&[u8], &[u8]); 4] = [
-        // no job has the tag
-        (
-            b"block 256\n\
-              pace 10\n\
-              operator\n\
-              dump default \\e \\xff\n\
-              status default\n\
-              schedule\n\
-              op\n\
-              op\n\
-              op\n",
-            b"op dump -> refused no-job default\n\
-              op status -> never-ran\n\
-              op -> none\n\
-              end 0\n",
-        ),
-        // a job was started in the container
-        (
-            b"block 256\n\
-              pace 10\n\
-              operator\n\
-              open one src box\n\
-              open two src box\n\
-              schedule\n\
-              op\n\
-              op\n",
-            b"op open -> done\n\
-              op open -> refused container-taken one\n\
-              job 1 one hand running\n\
-              end 10\n",
-        ),
-        // nothing was dumped
-        (
-            b"block 256\n\
-              pace 10\n\
-              operator\n\
-              open one src box\n\
-              seal one\n\
-              schedule\n\
-              op\n\
-              op\n",
-            b"op open -> done\n\
-              op seal -> refused untiled \\e\n\
-              job 1 one hand running\n\
-              end 10\n",
-        ),
-        // two jobs, of which one is ended
-        (
-            b"block 256\n\
-              pace 10\n\
-              operator\n\
-              open one src box\n\
-              open two dst cask\n\
-              dump two \\e \\xff\n\
-              abort one\n\
-              status one\n\
-              schedule\n\
-              op\n\
-              op\n\
-              op\n\
-              op\n\
-              op\n",
-            b"op open -> done\n\
-              op open -> done\n\
-              op dump -> placed cask/kvranges/snapshot.20/0/range,20,1,256\n\
-              op abort -> done\n\
-              op status -> aborted\n\
-              job 1 one hand aborted\n\
-              job 2 two hand running\n\
-              end 20\n",
-        ),
-    ];
-    for (text, said) in rows {
+    for (text, said) in REFUSED {
         assert!(rt; ends(rt.alloc(), text, NONE, 0, said)?);
     }
     Ok(())
@@ -618,83 +523,29 @@ fn leaves_a_file(alloc: Global) -> Result<bool, AllocError> {
     )
 }
 
+// A source that fails, a sink that fails, and texts that aren't built.
+const ENDINGS: &[(&[u8], Failing, u8, &[u8])] = &[
+    (
+        SMALLEST,
+        Failing { source: 1, ..NONE },
+        3,
+        b"refused source-fault\n",
+    ),
+    (
+        SMALLEST,
+        Failing { source: 2, ..NONE },
+        3,
+        b"refused source-fault\n",
+    ),
+    (SMALLEST, Failing { sink: 1, ..NONE }, 4, b""),
+    (b"", NONE, 15, b"refused not-built 1\n"),
+    (b"block 256\npace 9\n", NONE, 15, b"refused not-built 2\n"),
+];
+
 #[test]
-fn a_failing_source_is_a_refusal(rt: HostRuntime) -> Result<(), Fail> {
-    for source in [1, 2] {
-        let failing = Failing { source, ..NONE };
-        assert!(rt; ends(rt.alloc(), SMALLEST, failing, 3, b"refused source-fault\n")?);
+fn each_other_ending_has_its_line(rt: HostRuntime) -> Result<(), Fail> {
+    for (text, failing, status, said) in ENDINGS {
+        assert!(rt; ends(rt.alloc(), text, *failing, *status, said)?);
     }
     Ok(())
-}
-
-#[test]
-fn a_sink_that_fails_at_once_holds_nothing(rt: HostRuntime) -> Result<(), Fail> {
-    let failing = Failing { sink: 1, ..NONE };
-    assert!(rt; ends(rt.alloc(), SMALLEST, failing, 4, b"")?);
-    Ok(())
-}
-
-#[test]
-fn a_text_that_is_not_built_names_its_line(rt: HostRuntime) -> Result<(), Fail> {
-    let alloc = rt.alloc();
-    assert!(rt; ends(alloc, b"", NONE, 15, b"refused not-built 1\n")?);
-    assert!(rt;
-        ends(
-            alloc,
-            b"block 256\npace 9\n",
-            NONE,
-            15,
-            b"refused not-built 2\n"
-        )?
-    );
-    Ok(())
-}
-
-// A sink that takes a byte at a time. It tells no content.
-#[derive(Drop)]
-struct Dropper {
-    bytes: Vec<u8>,
-    faults: u64,
-}
-
-impl Sink for Dropper {
-    ghost use Rattle.std.specs.Prelude.{None};
-
-    ghost faults = { λ s. s.faults };
-
-    ghost held = { λ _. None };
-
-    fn write(&mut self, piece: &[u8]) -> Result<usize, Failed> {
-        let Some(byte) = piece.first() else {
-            return Ok(0);
-        };
-        match self.bytes.push(*byte) {
-            Ok(()) => Ok(1),
-            Err(_) => {
-                if self.faults < u64::MAX {
-                    self.faults += 1;
-                }
-                Err(Failed)
-            }
-        }
-    }
-
-    fn faults(&self) -> u64 {
-        self.faults
-    }
-}
-
-#[test]
-fn a_sink_may_take_a_byte_at_a_time(rt: HostRuntime) -> Result<(), Fail> {
-    assert!(rt; drops_bytes(rt.alloc())?);
-    Ok(())
-}
-
-fn drops_bytes(alloc: Global) -> Result<bool, AllocError> {
-    let mut sink = Dropper {
-        bytes: Vec::new(alloc),
-        faults: 0,
-    };
-    let exit = played(alloc, SMALLEST, &[], &mut sink)?;
-    Ok(exit.status == 0 && is_same(sink.bytes.as_slice(), SMALLEST_REPORT))
 }

@@ -80,60 +80,6 @@ fn a_batch_of_several_parts_is_joined(rt: HostRuntime) -> Result<(), Fail> {
     Ok(())
 }
 
-/// Whether these versions stand under a job from `begin` on and before `end`.
-fn joins(
-    logs: &LogKeys,
-    job: u64,
-    begin: u64,
-    end: u64,
-    versions: &[u64],
-) -> Result<bool, AllocError> {
-    let chunk = logs.join(job, begin, end)?;
-    let batches = chunk.batches.as_slice();
-    if batches.len() != versions.len() {
-        return Ok(false);
-    }
-    for (batch, version) in batches.iter().zip(versions) {
-        if batch.version != *version {
-            return Ok(false);
-        }
-    }
-    Ok(true)
-}
-
-/// Four jobs, put out of order. Each batch has four parts.
-fn four_jobs(alloc: Global) -> Result<LogKeys, Fail> {
-    let mut logs = LogKeys::new(alloc);
-    let rows = [
-        (1, 20),
-        (256, 10),
-        (1, 10),
-        (2, 20),
-        (0, 30),
-        (1, 256),
-        (1, 30),
-    ];
-    for (job, version) in rows {
-        put(alloc, &mut logs, job, version, 10)?;
-    }
-    Ok(logs)
-}
-
-#[test]
-fn jobs_and_versions_stay_apart(rt: HostRuntime) -> Result<(), Fail> {
-    let mut logs = four_jobs(rt.alloc())?;
-    assert!(rt; joins(&logs, 1, 10, 30, &[10, 20])?);
-    assert!(rt; joins(&logs, 1, 11, 257, &[20, 30, 256])?);
-    assert!(rt; joins(&logs, 256, 0, 11, &[10])?);
-    logs.erase(1, 30);
-    assert!(rt; joins(&logs, 1, 0, 300, &[30, 256])?);
-    assert!(rt; joins(&logs, 2, 0, 300, &[20])?);
-    logs.retract(30);
-    assert!(rt; joins(&logs, 1, 0, 300, &[256])?);
-    assert!(rt; joins(&logs, 0, 0, 300, &[])?);
-    Ok(())
-}
-
 #[test]
 fn a_key_is_a_prefix_and_three_numbers(rt: HostRuntime) -> Result<(), Fail> {
     let key = LogKey::new(rt.alloc(), 1, 258, 3)?;

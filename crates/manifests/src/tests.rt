@@ -1,17 +1,16 @@
 use super::*;
-use file_names::{Name, parse};
+use file_names::parse;
 use std::test::Fail;
 
 /// The manifest of one range file.
-fn smallest() -> &'static str {
-    r#"{"beginVersion":20,"endVersion":20,"files":["kvranges/snapshot.20/0/range,20,1,256"],"format":1,"totalBytes":23}"#
-}
+const SMALLEST: &str =
+    r#"{"beginVersion":20,"endVersion":20,"files":["kvranges/snapshot.20/0/range,20,1,256"],"format":1,"totalBytes":23}"#;
 
 #[test]
 fn smallest_manifest(rt: HostRuntime) -> Result<(), Fail> {
     let alloc = rt.alloc();
     let name = parse(b"snapshots/snapshot,20,20,23,3");
-    let manifest = read(alloc, smallest().as_bytes(), &name)?;
+    let manifest = read(alloc, SMALLEST.as_bytes(), &name)?;
     assert_eq!(rt;
         (manifest.begin, manifest.end, manifest.bytes),
         (20, 20, 23)
@@ -21,83 +20,58 @@ fn smallest_manifest(rt: HostRuntime) -> Result<(), Fail> {
     };
     assert_eq!(rt; file.as_str(), "kvranges/snapshot.20/0/range,20,1,256");
     let text = write(alloc, &manifest)?;
-    assert_eq!(rt; text.as_slice(), smallest().as_bytes());
+    assert_eq!(rt; text.as_slice(), SMALLEST.as_bytes());
     Ok(())
 }
 
-/// Version 100 stands before version 20.
-#[test]
-fn files_in_byte_order(rt: HostRuntime) -> Result<(), Fail> {
-    let alloc = rt.alloc();
-    let text =
-        r#"{"beginVersion":20,"endVersion":100,"files":["kvranges/snapshot.100/0/range,100,1,256","kvranges/snapshot.100/0/range,20,2,256"],"format":1,"totalBytes":46}"#;
-    let name = parse(b"snapshots/snapshot,20,100,46,3");
-    let manifest = read(alloc, text.as_bytes(), &name)?;
-    let copy = manifest.copy()?;
-    assert_eq!(rt; (copy.begin, copy.end, copy.files.len()), (20, 100, 2));
-    Ok(())
-}
+/// Bytes that are no manifest, and why.
+const FAULTS: &[(&[u8], ManifestFault)] = &[
+    (b"\xff", ManifestFault::Json),
+    (b"{", ManifestFault::Json),
+    (
+        b"{}",
+        ManifestFault::Field {
+            name: Field::BeginVersion,
+        },
+    ),
+    (
+        br#"{"beginVersion":20,"endVersion":20.0}"#,
+        ManifestFault::Field {
+            name: Field::EndVersion,
+        },
+    ),
+    (
+        br#"{"beginVersion":20,"endVersion":20,"files":[1]}"#,
+        ManifestFault::Field { name: Field::Files },
+    ),
+    (
+        br#"{"beginVersion":20,"endVersion":20,"files":[],"format":1,"format":2}"#,
+        ManifestFault::Field {
+            name: Field::Format,
+        },
+    ),
+    (
+        br#"{"beginVersion":20,"endVersion":20,"files":[],"format":1}"#,
+        ManifestFault::Field {
+            name: Field::TotalBytes,
+        },
+    ),
+    (
+        br#"{"beginVersion":20,"endVersion":20,"files":["a"],"format":1,"totalBytes":23}"#,
+        ManifestFault::Order { at: 0 },
+    ),
+    (
+        br#"{"beginVersion":20,"endVersion":20,"files":[],"format":2,"format":1,"totalBytes":23}"#,
+        ManifestFault::Versions,
+    ),
+];
 
 /// Of a field that stands twice the last one counts.
 #[test]
 fn faults(rt: HostRuntime) {
-    let rows: [(&[u8], ManifestFault); 9] = [
-        (b"\xff", ManifestFault::Json),
-        (b"{", ManifestFault::Json),
-        (
-            b"{}",
-            ManifestFault::Field {
-                name: Field::BeginVersion,
-            },
-        ),
-        (
-            br#"{"beginVersion":20,"endVersion":20.0}"#,
-            ManifestFault::Field {
-                name: Field::EndVersion,
-            },
-        ),
-        (
-            br#"{"beginVersion":20,"endVersion":20,"files":[1]}"#,
-            ManifestFault::Field { name: Field::Files },
-        ),
-        (
-            br#"{"beginVersion":20,"endVersion":20,"files":[],"format":1,"format":2}"#,
-            ManifestFault::Field {
-                name: Field::Format,
-            },
-        ),
-        (
-            br#"{"beginVersion":20,"endVersion":20,"files":[],"format":1}"#,
-            ManifestFault::Field {
-                name: Field::TotalBytes,
-            },
-        ),
-        (
-            br#"{"beginVersion":20,"endVersion":20,"files":["a"],"format":1,"totalBytes":23}"#,
-            ManifestFault::Order { at: 0 },
-        ),
-        (
-            br#"{"beginVersion":20,"endVersion":20,"files":[],"format":2,"format":1,"totalBytes":23}"#,
-            ManifestFault::Versions,
-        ),
-    ];
     let name = parse(b"snapshots/snapshot,20,20,23,3");
-    for (text, fault) in rows {
-        assert_eq!(rt; read(rt.alloc(), text, &name).err(), Some(fault));
-    }
-}
-
-#[test]
-fn words_of_fields(rt: HostRuntime) {
-    let rows = [
-        (Field::BeginVersion, "beginVersion"),
-        (Field::EndVersion, "endVersion"),
-        (Field::Files, "files"),
-        (Field::Format, "format"),
-        (Field::TotalBytes, "totalBytes"),
-    ];
-    for (field, word) in rows {
-        assert_eq!(rt; field.word(), word);
+    for (text, fault) in FAULTS {
+        assert_eq!(rt; read(rt.alloc(), text, &name).err(), Some(*fault));
     }
 }
 

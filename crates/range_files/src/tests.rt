@@ -98,16 +98,6 @@ fn is_within(profile: &Profile, begin: &[u8], end: &[u8], pair: &Pair) -> bool
         && is_below(key, end)
 }
 
-/// Whether the file that is written is read back as the chunk.
-fn is_read_back(alloc: Global, block: u32, chunk: &Chunk) -> Result<bool, Fail> {
-    if block == 0 {
-        return Ok(false);
-    }
-    let text = written(alloc, block, chunk)?.ok_or("a chunk that can be written")?;
-    let body = read_range(alloc, text.as_slice(), block)?;
-    Ok(holds(&body, chunk))
-}
-
 fn holds(body: &RangeBody, chunk: &Chunk) -> bool {
     let same = body.pairs.as_slice().iter().zip(chunk.pairs.as_slice());
     body.begin.as_slice() == chunk.begin.as_slice()
@@ -157,19 +147,6 @@ fn file_of_six_pairs(alloc: Global) -> Result<Vec<u8>, AllocError> {
 }
 
 #[test]
-fn files_of_one_block(rt: HostRuntime) -> Result<(), Fail> {
-    let one = chunk_of(rt.alloc(), b"a", b"z", &[(b"c", b"1")])?.ok_or("rising keys")?;
-    let text = written(rt.alloc(), 256, &one)?.ok_or("within the limits")?;
-    let expected: &[u8] = b"\xe9\x03\0\0\0\0\0\x01a\0\0\0\x01c\0\0\0\x011\0\0\0\x01z";
-    assert_eq!(rt; text.as_slice(), expected);
-    let whole = chunk_of(rt.alloc(), b"", b"\xff", &[(b"a", b"1")])?.ok_or("rising keys")?;
-    let text = written(rt.alloc(), 256, &whole)?.ok_or("within the limits")?;
-    let expected: &[u8] = b"\xe9\x03\0\0\0\0\0\0\0\0\0\x01a\0\0\0\x011\0\0\0\x01\xff";
-    assert_eq!(rt; text.as_slice(), expected);
-    Ok(())
-}
-
-#[test]
 fn file_of_three_blocks(rt: HostRuntime) -> Result<(), Fail> {
     let chunk = six_pairs(rt.alloc())?.ok_or("rising keys")?;
     let text = written(rt.alloc(), 256, &chunk)?.ok_or("within the limits")?;
@@ -178,91 +155,6 @@ fn file_of_three_blocks(rt: HostRuntime) -> Result<(), Fail> {
     assert_eq!(rt; text.as_slice(), bytes.as_slice());
     let body = read_range(rt.alloc(), &bytes, 256)?;
     assert!(rt; holds(&body, &chunk));
-    Ok(())
-}
-
-/// What a reader says of their file, where its front alone is there and one byte is another.
-fn fault_of(alloc: Global, front: usize, at: usize, byte: u8) -> Result<BlockFault, Fail> {
-    let mut bytes = file_of_six_pairs(alloc)?;
-    bytes.truncate(front);
-    if let Some(place) = bytes.get_mut(at) {
-        *place = byte;
-    }
-    let fault = read_range(alloc, &bytes, 256).err().ok_or("a fault")?;
-    Ok(fault)
-}
-
-#[test]
-fn spoilt_files(rt: HostRuntime) -> Result<(), Fail> {
-    let cut = fault_of(rt.alloc(), 512, 512, 0)?;
-    assert_eq!(rt; cut, BlockFault::Short { at: 512 });
-    let padding = fault_of(rt.alloc(), 672, 230, 0)?;
-    assert_eq!(rt; padding, BlockFault::Padding { at: 230 });
-    Ok(())
-}
-
-#[test]
-fn faults(rt: HostRuntime) {
-    let texts: [(&[u8], BlockFault); 7] = [
-        (b"", BlockFault::Short { at: 0 }),
-        (b"\xd1\x07\0\0", BlockFault::Format { found: 2001 }),
-        (b"\xe9\x03\0\0\0\0\0\x01a", BlockFault::Short { at: 9 }),
-        (
-            b"\xe9\x03\0\0\0\0\0\x01a\0\0\0\x01b\xff\0",
-            BlockFault::Padding { at: 15 },
-        ),
-        (
-            b"\xe9\x03\0\0\0\0\0\x01a\0\0\0\x01c\0\0\0\x011\0\0\0\x01c",
-            BlockFault::Order { at: 19 },
-        ),
-        (
-            b"\xe9\x03\0\0\0\0\0\x01a\0\0\0\x01c\0\0\0\x011",
-            BlockFault::Short { at: 19 },
-        ),
-        (
-            b"\xe9\x03\0\0\0\0\0\x01a\0\0\0\x01c\0\0\0\x011\xff\xff\xff\xff\xff\xe9\x03\0\0\0\0\0\x01c\0\0\0\x01c\0\0\0\x012\0\0\0\x01z",
-            BlockFault::Join { block: 1 },
-        ),
-    ];
-    for (text, fault) in texts {
-        assert_eq!(rt; read_range(rt.alloc(), text, 24).err(), Some(fault));
-    }
-}
-
-#[test]
-fn one_block_at_its_place(rt: HostRuntime) -> Result<(), Fail> {
-    let text: &[u8] = b"\xe9\x03\0\0\0\0\0\x01a\0\0\0\x01c\0\0\0\x011\xff\xff";
-    let block = read_block(rt.alloc(), text, 0, 1001)?;
-    assert_eq!(rt; block.begin.as_slice(), b"a".as_slice());
-    assert_eq!(rt; block.pairs.len(), 1);
-    assert!(rt; block.end.is_none());
-    let later = read_block(rt.alloc(), text, 24, 1001);
-    assert_eq!(rt; later.err(), Some(BlockFault::Order { at: 33 }));
-    Ok(())
-}
-
-/// Three pairs, each with a key and a value of these lengths.
-fn long_pairs(alloc: Global, key: usize, value: usize) -> Result<Option<Chunk>, AllocError> {
-    let value = vec![in alloc; 7; value]?;
-    let first = vec![in alloc; 1; key]?;
-    let second = vec![in alloc; 2; key]?;
-    let third = vec![in alloc; 3; key]?;
-    let list: [(&[u8], &[u8]); 3] = [(&first, &value), (&second, &value), (&third, &value)];
-    chunk_of(alloc, b"", b"\xff", &list)
-}
-
-#[test]
-fn greatest_lengths_of_each_profile(rt: HostRuntime) -> Result<(), Fail> {
-    for (block, key, value) in [
-        (256, 24, 64),
-        (4_096, 256, 1_024),
-        (262_144, 10_000, 100_000),
-        (1_048_576, 10_000, 100_000),
-    ] {
-        let chunk = long_pairs(rt.alloc(), key, value)?.ok_or("rising keys")?;
-        let chunk = chunk.copy()?;
-        assert!(rt; is_read_back(rt.alloc(), block, &chunk)?, "{block}");
-    }
     Ok(())
 }
 

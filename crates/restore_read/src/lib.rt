@@ -8,6 +8,3 @@ mod restoring;
 
 pub use laws::restore_law;
 pub use restoring::restore;
-
-#[cfg(test)]
-mod tests;

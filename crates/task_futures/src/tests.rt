@@ -17,17 +17,6 @@ fn two_blocks(rt: &HostRuntime) -> Result<ListFutures, Fail> {
     Ok(futures)
 }
 
-// A join of a join.
-fn chain(rt: &HostRuntime) -> Result<ListFutures, Fail> {
-    let mut futures = ListFutures::new(rt.alloc());
-    futures.fresh()?;
-    futures.block(1)?;
-    futures.join(&[1])?;
-    futures.join(&[2])?;
-    futures.on_set(3, task(2))?;
-    Ok(futures)
-}
-
 fn jobs(futures: &ListFutures, rt: &HostRuntime, block: u64) -> Result<Vec<u64>, Fail> {
     let due = futures.due(1, block)?;
     let mut jobs = Vec::new(rt.alloc());
@@ -49,16 +38,6 @@ fn a_join(rt: HostRuntime) -> Result<(), Fail> {
     futures.drop_newest();
     futures.drop_newest();
     assert_eq!(rt; futures.fresh()?, 1);
-    Ok(())
-}
-
-#[test]
-fn a_join_of_a_join(rt: HostRuntime) -> Result<(), Fail> {
-    let mut futures = chain(&rt)?;
-    let due = jobs(&futures, &rt, 1)?;
-    assert_eq!(rt; due.as_slice(), [3].as_slice());
-    futures.unblock(1, 1);
-    assert!(rt; jobs(&futures, &rt, 1)?.is_empty());
     Ok(())
 }
 

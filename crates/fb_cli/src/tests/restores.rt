@@ -48,109 +48,114 @@ fn plays_and_restores(
     Ok(played.status == 0)
 }
 
-// Restored at three versions, of which it advertises one.
-#[test]
-fn the_smallest_job_is_restored_at_its_manifests_version(rt: HostRuntime) -> Result<(), Fail> {
-    let rows: [(&str, u8, &[u8]); 3] = [
-        ("20", 0, b"version 20\npair a 1\npairs 1\n"),
-        ("21", 6, b"refused not-restorable 20 20\n"),
-        ("19", 6, b"refused not-restorable 20 20\n"),
-    ];
-    assert!(rt; plays_and_restores(rt.alloc(), SMALLEST, &rows)?);
-    Ok(())
-}
-
-// The commit at the dump's version stands in the log too.
-#[test]
-fn a_mutation_at_a_dumps_version_is_made_once(rt: HostRuntime) -> Result<(), Fail> {
-    let rows: [(&str, u8, &[u8]); 3] = [
-        ("20", 0, b"version 20\npair n \\x01\npairs 1\n"),
-        ("30", 0, b"version 30\npair n \\x02\npairs 1\n"),
-        ("31", 6, b"refused not-restorable 20 30\n"),
-    ];
-    assert!(rt; plays_and_restores(rt.alloc(), ADDS, &rows)?);
-    Ok(())
-}
-
 // The clear lies between the two dumps.
-#[test]
-fn a_clear_across_two_pieces_is_made_on_the_older(rt: HostRuntime) -> Result<(), Fail> {
-    let text = b"block 256\n\
-        pace 10\n\
-        client 1 src\n\
-        txn\n\
-        set c 1\n\
-        txn\n\
-        clearrange b x\n\
-        txn\n\
-        set p 2\n\
-        operator\n\
-        open default src box a z\n\
-        dump default a m\n\
-        dump default m z\n\
-        cut default\n\
-        seal default\n\
-        schedule\n\
-        op\n\
-        begin 1\n\
-        commit 1\n\
-        op\n\
-        begin 1\n\
-        commit 1\n\
-        begin 1\n\
-        commit 1\n\
-        op\n\
-        op\n\
-        op\n";
-    let rows: [(&str, u8, &[u8]); 2] = [
-        ("40", 0, b"version 40\npair p 2\npairs 1\n"),
-        ("39", 6, b"refused not-restorable 40 40\n"),
-    ];
-    assert!(rt; plays_and_restores(rt.alloc(), text, &rows)?);
-    Ok(())
-}
+const CLEARED: &[u8] = b"block 256\n\
+    pace 10\n\
+    client 1 src\n\
+    txn\n\
+    set c 1\n\
+    txn\n\
+    clearrange b x\n\
+    txn\n\
+    set p 2\n\
+    operator\n\
+    open default src box a z\n\
+    dump default a m\n\
+    dump default m z\n\
+    cut default\n\
+    seal default\n\
+    schedule\n\
+    op\n\
+    begin 1\n\
+    commit 1\n\
+    op\n\
+    begin 1\n\
+    commit 1\n\
+    begin 1\n\
+    commit 1\n\
+    op\n\
+    op\n\
+    op\n";
 
 // Before the second snapshot's end the first is taken, and the log from its begin on.
+const TWO_SNAPSHOTS: &[u8] = b"block 256\n\
+    pace 10\n\
+    client 1 src\n\
+    txn\n\
+    set a 1\n\
+    txn\n\
+    append a 2\n\
+    txn\n\
+    set b 3\n\
+    operator\n\
+    open default src box\n\
+    dump default \\e \\xff\n\
+    seal default\n\
+    cut default\n\
+    dump default \\e \\xff\n\
+    seal default\n\
+    cut default\n\
+    schedule\n\
+    op\n\
+    begin 1\n\
+    commit 1\n\
+    op\n\
+    op\n\
+    begin 1\n\
+    commit 1\n\
+    op\n\
+    op\n\
+    op\n\
+    begin 1\n\
+    commit 1\n\
+    op\n";
+
+// A version, the status of its restore, and what is said.
+type Row = (&'static str, u8, &'static [u8]);
+
+// Texts, and restores of the container `box` that they leave. The smallest job advertises one version.
+// A mutation at a dump's version, which stands in the log too, is made once, and a clear across two
+// pieces is made on the older one.
+const RESTORES: &[(&[u8], &[Row])] = &[
+    (
+        SMALLEST,
+        &[
+            ("20", 0, b"version 20\npair a 1\npairs 1\n"),
+            ("21", 6, b"refused not-restorable 20 20\n"),
+            ("19", 6, b"refused not-restorable 20 20\n"),
+        ],
+    ),
+    (
+        ADDS,
+        &[
+            ("20", 0, b"version 20\npair n \\x01\npairs 1\n"),
+            ("30", 0, b"version 30\npair n \\x02\npairs 1\n"),
+            ("31", 6, b"refused not-restorable 20 30\n"),
+        ],
+    ),
+    (
+        CLEARED,
+        &[
+            ("40", 0, b"version 40\npair p 2\npairs 1\n"),
+            ("39", 6, b"refused not-restorable 40 40\n"),
+        ],
+    ),
+    (
+        TWO_SNAPSHOTS,
+        &[
+            ("20", 0, b"version 20\npair a 1\npairs 1\n"),
+            ("29", 0, b"version 29\npair a 1\npairs 1\n"),
+            ("30", 0, b"version 30\npair a 12\npairs 1\n"),
+            ("40", 0, b"version 40\npair a 12\npair b 3\npairs 2\n"),
+        ],
+    ),
+];
+
 #[test]
-fn the_newest_snapshot_that_has_ended_is_taken(rt: HostRuntime) -> Result<(), Fail> {
-    let text = b"block 256\n\
-        pace 10\n\
-        client 1 src\n\
-        txn\n\
-        set a 1\n\
-        txn\n\
-        append a 2\n\
-        txn\n\
-        set b 3\n\
-        operator\n\
-        open default src box\n\
-        dump default \\e \\xff\n\
-        seal default\n\
-        cut default\n\
-        dump default \\e \\xff\n\
-        seal default\n\
-        cut default\n\
-        schedule\n\
-        op\n\
-        begin 1\n\
-        commit 1\n\
-        op\n\
-        op\n\
-        begin 1\n\
-        commit 1\n\
-        op\n\
-        op\n\
-        op\n\
-        begin 1\n\
-        commit 1\n\
-        op\n";
-    let rows: [(&str, u8, &[u8]); 4] = [
-        ("20", 0, b"version 20\npair a 1\npairs 1\n"),
-        ("29", 0, b"version 29\npair a 1\npairs 1\n"),
-        ("30", 0, b"version 30\npair a 12\npairs 1\n"),
-        ("40", 0, b"version 40\npair a 12\npair b 3\npairs 2\n"),
-    ];
-    assert!(rt; plays_and_restores(rt.alloc(), text, &rows)?);
+fn each_version_is_restored_or_refused(rt: HostRuntime) -> Result<(), Fail> {
+    for (text, rows) in RESTORES {
+        assert!(rt; plays_and_restores(rt.alloc(), text, rows)?);
+    }
     Ok(())
 }
 
@@ -320,22 +325,24 @@ fn is_damaged(alloc: Global, name: &str, bytes: &[u8], said: &[u8]) -> Result<bo
     ends(alloc, &files, 7, said)
 }
 
+// The files that are missing, the status, and what is said.
+const MISSING: &[(&[&str], u8, &[u8])] = &[
+    (
+        &[RANGE],
+        14,
+        b"refused missing kvranges/snapshot.20/0/range,20,1,256\n",
+    ),
+    (&[LOG], 0, b"version 20\npair a 1\npairs 1\n"),
+    (&[SEALED], 6, b"refused not-restorable none none\n"),
+    (&[RANGE, LOG, SEALED], 13, b"refused no-container\n"),
+];
+
 // The log isn't needed for the manifest's own version, and without its manifest the container
 // advertises nothing.
 #[test]
 fn a_missing_file_is_named_where_it_is_needed(rt: HostRuntime) -> Result<(), Fail> {
-    let rows: [(&[&str], u8, &[u8]); 4] = [
-        (
-            &[RANGE],
-            14,
-            b"refused missing kvranges/snapshot.20/0/range,20,1,256\n",
-        ),
-        (&[LOG], 0, b"version 20\npair a 1\npairs 1\n"),
-        (&[SEALED], 6, b"refused not-restorable none none\n"),
-        (&[RANGE, LOG, SEALED], 13, b"refused no-container\n"),
-    ];
-    for (names, status, said) in rows {
-        assert!(rt; ends_without(rt.alloc(), names, status, said)?);
+    for (names, status, said) in MISSING {
+        assert!(rt; ends_without(rt.alloc(), names, *status, said)?);
     }
     Ok(())
 }
@@ -373,28 +380,32 @@ fn with_second(alloc: Global, begin: &[u8], second: &[u8]) -> Result<Files, Allo
     Ok(files)
 }
 
+// The range file from `a` to `b` without pairs.
+const INNER: &[u8] = b"\xe9\x03\x00\x00\x00\x00\x00\x01a\x00\x00\x00\x01b";
+
+// Two range files, and what is said.
+const OVERLAPPING: &[(&[u8], &[u8], &[u8])] = &[
+    (
+        RANGE_FILE,
+        INNER,
+        b"refused damaged kvranges/snapshot.20/0/range,20,2,256 overlap a\n",
+    ),
+    (
+        INNER,
+        RANGE_FILE,
+        b"refused damaged kvranges/snapshot.20/0/range,20,1,256 overlap a\n",
+    ),
+    (
+        RANGE_FILE,
+        RANGE_FILE,
+        b"refused damaged kvranges/snapshot.20/0/range,20,2,256 overlap \\e\n",
+    ),
+];
+
 // Of two files that overlap the later one by begin keys is named, of equal begins the manifest's later.
 #[test]
 fn the_later_of_two_overlapping_files_is_damage(rt: HostRuntime) -> Result<(), Fail> {
-    let inner: &[u8] = b"\xe9\x03\x00\x00\x00\x00\x00\x01a\x00\x00\x00\x01b";
-    let rows: [(&[u8], &[u8], &[u8]); 3] = [
-        (
-            RANGE_FILE,
-            inner,
-            b"refused damaged kvranges/snapshot.20/0/range,20,2,256 overlap a\n",
-        ),
-        (
-            inner,
-            RANGE_FILE,
-            b"refused damaged kvranges/snapshot.20/0/range,20,1,256 overlap a\n",
-        ),
-        (
-            RANGE_FILE,
-            RANGE_FILE,
-            b"refused damaged kvranges/snapshot.20/0/range,20,2,256 overlap \\e\n",
-        ),
-    ];
-    for (first, second, said) in rows {
+    for (first, second, said) in OVERLAPPING {
         assert!(rt; is_overlapping(rt.alloc(), first, second, said)?);
     }
     Ok(())
@@ -427,33 +438,6 @@ fn takes_the_longer_log(alloc: Global) -> Result<bool, AllocError> {
         b"\xd1\x07\x00\x00\x00\x00\x00\x0c\x00\x00\x00\x00\x00\x00\x00\x14\x00\x00\x00\x00\x00\x00\x00\x1a\xbd\x1b\x00\x00\x00\x00\x00\x00\x0e\x00\x00\x00\x00\x00\x00\x00\x01\x00\x00\x00\x01\x00\x00\x00a9\x00\x00\x00\x0c\x00\x00\x00\x00\x00\x00\x00\x19\x00\x00\x00\x00\x00\x00\x00\x1a\xbd\x1b\x00\x00\x00\x00\x00\x00\x0e\x00\x00\x00\x00\x00\x00\x00\x01\x00\x00\x00\x01\x00\x00\x00a2\x00\x00\x00\x0c\x00\x00\x00\x00\x00\x00\x00\x1a\x00\x00\x00\x00\x00\x00\x00\x1a\xbd\x1b\x00\x00\x00\x00\x00\x00\x0e\x00\x00\x00\x00\x00\x00\x00\x01\x00\x00\x00\x01\x00\x00\x00a3",
     )?;
     ends_at(alloc, &files, "25", 0, b"version 25\npair a 2\npairs 1\n")
-}
-
-#[test]
-fn words_of_another_form_are_not_built(rt: HostRuntime) -> Result<(), Fail> {
-    let rows: [&[&str]; 9] = [
-        &["restore"],
-        &["restore", "box"],
-        &["restore", "box", "20", "x"],
-        &["restored", "box", "20"],
-        &["restore", "-b", "20"],
-        &["restore", "b/x", "20"],
-        &["restore", "box", "020"],
-        &["restore", "box", "4611686018427387905"],
-        &["restore", "box", ""],
-    ];
-    for words in rows {
-        assert!(rt; is_unknown(rt.alloc(), words)?);
-    }
-    Ok(())
-}
-
-// Whether these words aren't built.
-fn is_unknown(alloc: Global, words: &[&str]) -> Result<bool, AllocError> {
-    let vault = MemVault::new(alloc, &Files::new(alloc), &[])?;
-    let mut sink = MemSink::new(alloc, 100, &[])?;
-    let exit = called(alloc, words, vault, &mut sink)?;
-    Ok(exit.status == 15 && fb_bytes::is_same(sink.written().as_slice(), b"refused not-built 0\n"))
 }
 
 #[test]
