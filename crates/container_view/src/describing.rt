@@ -1,12 +1,11 @@
 //! What a container has, by the names of its files and its properties alone.
 
 ghost use Rattle.std.specs.Prelude.{◌≡◌, ◌+◌, ◌≤◌, List, Some, Ok, option_map, map, unwrap_or, IfOk, IfErr, IsErrOf};
-ghost use Rattle.container_view.specs.Bounds as bounds;
 ghost use Rattle.container_view.specs.Description as spec;
 ghost use Rattle.container_view.specs.Files.{inside};
-ghost use Rattle.container_view.specs.Names.{folder_named};
 ghost use Rattle.container_view.specs.Sets.{Fails};
-ghost use Rattle.container_view.specs.inner.Listed.{AreSorted, IsRisingBy, reach_in};
+ghost use Rattle.container_view.specs.inner.Listed.{IsRisingBy, reach_in, size_of, sizes_of};
+ghost use Rattle.container_view.specs.inner.Names.{snapshot_with};
 ghost use Rattle.fb_outside.specs.Faults.{Counts};
 ghost use Rattle.fb_outside.specs.declared.File.{File};
 
@@ -119,19 +118,20 @@ fn snapshots(
 ) -> Result<Seq<Snapshot>, AllocError>
     requires { IsRisingBy (λ run. run.begin) 0 runs.now }
     ensures { IfOk result (λ list. list
-        ≡ map (snapshot_with (reach_in runs.now) unreliable) sorted.now.manifests.items) }
+        ≡ map (snapshot_with (reach_in runs.now) unreliable)
+        (sizes_of sorted.now.manifests.items)) }
 {
     let mut list = Vec::with_capacity(alloc, sorted.manifests.len())?;
     'manifests: for manifest in &sorted.manifests {
-        list.push(snapshot(runs, unreliable, manifest))?;
+        list.push(sealed(runs, unreliable, manifest))?;
     }
     Ok(Seq::from_vec(list))
 }
 
 // The snapshot of a manifest.
-fn snapshot(runs: &[Run], unreliable: u64, manifest: &NamedManifest<'_>) -> Snapshot
+fn sealed(runs: &[Run], unreliable: u64, manifest: &NamedManifest<'_>) -> Snapshot
     requires { IsRisingBy (λ run. run.begin) 0 runs.now }
-    ensures { result ≡ snapshot_with (reach_in runs.now) unreliable manifest.now }
+    ensures { result ≡ snapshot_with (reach_in runs.now) unreliable (size_of manifest.now) }
 {
     Snapshot {
         begin: manifest.begin,
@@ -152,14 +152,20 @@ pub fn describe<V: Vault>(
         → spec.description_of (inside container.now files) ≡ Ok description) }
     ensures err { IfErr result (λ fault. (files : List File) → V.files vault.old ≡ Some files
         → Fails fault (spec.description_of (inside container.now files))) }
+    ensures kind { IfErr result spec.IsOfDescribing }
     ensures same { V.files vault.new ≡ V.files vault.old }
     ensures count { Counts (V.faults vault.old) (V.faults vault.new)
         (IsErrOf result ViewFault.VaultFault) }
     ensures called { V.calls vault.new ≤ V.calls vault.old + 3 }
 {
     let names = list_names(alloc, vault, container)?;
-    let unreliable = match get_property(alloc, vault, container, &names, "properties/unreliable_end")
-    {
+    let unreliable = match get_property(
+        alloc,
+        vault,
+        container,
+        &names,
+        "properties/unreliable_end",
+    ) {
         Ok(number) => number,
         Err(fault) => return Err(fault),
     };
