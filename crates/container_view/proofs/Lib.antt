@@ -13,6 +13,7 @@ pub mod Stores
 pub mod Honest
 pub mod Lookups
 pub mod Decimal
+pub mod Spans
 pub mod Names
 pub mod Stripped
 pub mod Reading
@@ -22,3 +23,4 @@ pub mod Begun
 pub mod Runs
 pub mod Bests
 pub mod Search
+pub mod Descriptions

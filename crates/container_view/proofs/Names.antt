@@ -1,5 +1,5 @@
 -- What names tell: the best log by one pass from the left, and chains.
-use Rattle.std.proofs.Common.{◌≡◌, ℕ, zero, suc, ◌-◌, ◌+◌, ◌<◌, ◌≤◌, Bool, true, false, cond, ◌&&◌, ◌||◌, ◌==◌, max, min, is_some, List, [], ◌∷◌, ◌++◌, length, take, get_or, map, Option, Some, None, option_map, if◌then◌else◌, refl, sym, ap, ◌∙◌, nat_le, nat_lt, arith, append_assoc}
+use Rattle.std.proofs.Common.{◌≡◌, ℕ, zero, suc, ◌-◌, ◌+◌, ◌<◌, ◌≤◌, Bool, true, false, cond, ◌&&◌, ◌||◌, ◌==◌, max, is_some, List, [], ◌∷◌, ◌++◌, length, take, get_or, map, Option, Some, None, option_map, if◌then◌else◌, refl, sym, ap, ◌∙◌, nat_le, nat_lt, arith, append_assoc}
 use Rattle.std.proofs.lemmas.Bool.{false_from_ne_true, lt-leb, lt-ltb, ltb-true}
 use Rattle.std.proofs.lemmas.List.{map-append}
 use Rattle.fb_bytes.specs.Bytes.{Bytes}
@@ -12,7 +12,7 @@ use Rattle.mutations.proofs.Basics.{not_both}
 use Rattle.container_view.specs.Folder.{LogFile, ManifestFile, Folder}
 use Rattle.container_view.specs.Chain.{LogLink, comes_first, has_version, log_beats, best_log, links, chain}
 use Rattle.container_view.specs.Advertised.{gives, manifest_beats, chosen}
-use Rattle.container_view.specs.Bounds.{Bounds, reached, is_given, given, wider, given_by}
+use Rattle.container_view.specs.Bounds.{reached, is_given, given, wider, given_by}
 use Rattle.container_view.specs.Files.{Grammars, as_log, as_manifest, range_files, log_files, manifest_files, unreliable_of}
 use Rattle.container_view.specs.Names.{Link, as_named_log, logs_named, as_named_manifest, manifests_named, folder_named, manifest_name, link_of, named_links, chain_named, AreNamesOf, NamesLaw, seen}
 use Rattle.container_view.specs.inner.Names.{first_of, seen_manifest, better_manifest, given_named}
@@ -21,6 +21,7 @@ use Rattle.container_view.specs.declared.sorting.NamedManifest.{NamedManifest}
 use Rattle.container_view.specs.inner.Listed.{reach_in, manifest_of, manifests_of}
 use Rattle.mutations.proofs.Lengths.{take_item}
 use Rattle.fb_bytes.proofs.Options.{bind_some}
+use Rattle.container_view.proofs.Spans.{wider_none, wider_assoc}
 use Rattle.container_view.proofs.Best.{IsOrder, by_end_and_name}
 use Rattle.container_view.proofs.Whole.{chain_law}
 use Rattle.container_view.proofs.Reached.{reach_law}
@@ -239,19 +240,6 @@ module _ (folder : Folder) where
       ap (λ b. cond b (first_of m.name m.end (seen_manifest (best_among version ms))) (seen_manifest (best_among version ms))) (sym (gives_by version m))
       ∙ manifest_is m (best_among version ms) (gives folder version m)
       ∙ ap seen_manifest (sym (best_last (gives folder version) manifest_beats (by_end_and_name (λ m. m.end) (λ m. m.name)) ms m))
-
-  wider_none : (a : Option Bounds) → wider a None ≡ a
-  wider_none None = refl
-  wider_none (Some a) = refl
-
-  wider_assoc : (a b c : Option Bounds) → wider a (wider b c) ≡ wider (wider a b) c
-  wider_assoc None b c = refl
-  wider_assoc (Some a) None c = refl
-  wider_assoc (Some a) (Some b) None = refl
-  wider_assoc (Some a) (Some b) (Some c) =
-      let least : min a.least (min b.least c.least) ≡ min (min a.least b.least) c.least = omega arith in
-      let greatest : max a.greatest (max b.greatest c.greatest) ≡ max (max a.greatest b.greatest) c.greatest = omega arith in
-      λ i. Some (record { least = least i; greatest = greatest i })
 
   given_last : (ms : List ManifestFile) (m : ManifestFile) → given_by folder (ms ++ m ∷ []) ≡ wider (given_by folder ms) (given folder m)
   given_last [] m = wider_none (given folder m)

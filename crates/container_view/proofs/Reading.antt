@@ -1,5 +1,5 @@
 -- Readings that go on step by step, over plain variables.
-use Rattle.std.proofs.Common.{◌≡◌, ◌∙◌, ℕ, List, [], ◌∷◌, map, Option, Some, None, Result, Ok, Err, unwrap_or, inl, inr, ◌⊎◌, refl, sym, ap, subst, IfOk, IfErr}
+use Rattle.std.proofs.Common.{◌≡◌, ◌∙◌, ℕ, List, [], ◌∷◌, map, Option, Some, None, Result, Ok, Err, inl, inr, ◌⊎◌, refl, sym, ap, subst, IfOk, IfErr}
 use Rattle.fb_bytes.specs.Bytes.{Bytes}
 use Rattle.fb_outside.specs.declared.File.{File}
 use Rattle.fb_outside.specs.Files.{file_of}
@@ -8,25 +8,25 @@ use Rattle.container_view.specs.declared.view.ViewFault.{ViewFault}
 use Rattle.container_view.specs.declared.view.ViewFault.TheVariants as faults
 use Rattle.container_view.specs.declared.view.FileFault.TheVariants as file_faults
 use Rattle.container_view.specs.Property.{property_in}
-use Rattle.container_view.specs.Sets.{Fails, set_by, set_of}
+use Rattle.container_view.specs.Sets.{Fails, with_properties}
 
 pub filed : (files : List File) (names : List Bytes) → (names ≡ [] → ⊥) → names ≡ map (λ (f : File). f.name) files → files ≡ [] → ⊥
 filed files names some is e = some (is ∙ ap (map (λ (f : File). f.name)) e)
 
-module _ (version : ℕ) where
+module _ {A : Type 0} (next : List Bytes → Option ℕ → Option ℕ → Result A ViewFault) where
   -- once both properties are read, the rest is by the names
-  pub set_goes : (files : List File) (names : List Bytes) (unreliable expired : Option ℕ) → (files ≡ [] → ⊥) → names ≡ map (λ (f : File). f.name) files → property_in (file_of files unreliable_text) ≡ Some unreliable → property_in (file_of files expired_text) ≡ Some expired → set_of files version ≡ set_by files names (unwrap_or unreliable 0) version
-  set_goes [] names unreliable expired some is u e = absurd (some refl)
-  set_goes (f ∷ fs) names unreliable expired some is u e = rw (u, e, is) refl
+  pub goes : (files : List File) (names : List Bytes) (unreliable expired : Option ℕ) → (files ≡ [] → ⊥) → names ≡ map (λ (f : File). f.name) files → property_in (file_of files unreliable_text) ≡ Some unreliable → property_in (file_of files expired_text) ≡ Some expired → with_properties files next ≡ next names unreliable expired
+  goes [] names unreliable expired some is u e = absurd (some refl)
+  goes (f ∷ fs) names unreliable expired some is u e = rw (u, e, is) refl
 
   -- a damaged property is the first fault
-  pub set_stops : (files : List File) → (files ≡ [] → ⊥) → property_in (file_of files unreliable_text) ≡ None → set_of files version ≡ Err (faults.Damaged unreliable_text file_faults.Property)
-  set_stops [] some u = absurd (some refl)
-  set_stops (f ∷ fs) some u = rw u refl
+  pub stops_at_once : (files : List File) → (files ≡ [] → ⊥) → property_in (file_of files unreliable_text) ≡ None → with_properties files next ≡ Err (faults.Damaged unreliable_text file_faults.Property)
+  stops_at_once [] some u = absurd (some refl)
+  stops_at_once (f ∷ fs) some u = rw u refl
 
-  pub set_stops_late : (files : List File) (unreliable : Option ℕ) → (files ≡ [] → ⊥) → property_in (file_of files unreliable_text) ≡ Some unreliable → property_in (file_of files expired_text) ≡ None → set_of files version ≡ Err (faults.Damaged expired_text file_faults.Property)
-  set_stops_late [] unreliable some u e = absurd (some refl)
-  set_stops_late (f ∷ fs) unreliable some u e = rw (u, e) refl
+  pub stops_late : (files : List File) (unreliable : Option ℕ) → (files ≡ [] → ⊥) → property_in (file_of files unreliable_text) ≡ Some unreliable → property_in (file_of files expired_text) ≡ None → with_properties files next ≡ Err (faults.Damaged expired_text file_faults.Property)
+  stops_late [] unreliable some u e = absurd (some refl)
+  stops_late (f ∷ fs) unreliable some u e = rw (u, e) refl
 
 -- a call that answers a fault of the store, want of memory, or what the files give
 pub stops : (fault damage : ViewFault) {A P : Type 0} (reading : Result A ViewFault) → (fault ≡ faults.VaultFault) ⊎ ((fault ≡ faults.NoMemory) ⊎ ((fault ≡ damage) × P)) → (P → reading ≡ Err damage) → Fails fault reading

@@ -16,4 +16,5 @@ pub mod Lookups
 pub mod Honest
 pub mod Names
 pub mod Sets
+pub mod Description
 pub mod inner

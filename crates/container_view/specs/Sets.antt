@@ -83,15 +83,26 @@ set_by files names unreliable version = do
   manifest ← manifest_at files name
   set_with names manifest version (first_unlisted names manifest.files)
 
+-- What is read of a container with these files, or the first fault: that it has no file, a property,
+-- unreliable first, and then what the names and both properties come to.
+abbrev pub with_properties : {A : Type 0} → List File
+    → (List Bytes → Option ℕ → Option ℕ → Result A ViewFault) → Result A ViewFault
+with_properties [] next = Err faults.NoContainer
+with_properties (file ∷ files) next = do
+  unreliable ← property_read (file ∷ files) unreliable_text
+  expired ← property_read (file ∷ files) expired_text
+  next (map (λ (f : File). f.name) (file ∷ files)) unreliable expired
+
+-- the set by the names and the properties
+abbrev pub set_then : List File → ℕ → List Bytes → Option ℕ → Option ℕ
+    → Result RestoreSet ViewFault
+set_then files version names unreliable expired = set_by files names (unwrap_or unreliable 0) version
+
 -- What is read for a version of a container with these files, or the first fault: that it has no
 -- file, a property, unreliable first, that the version isn't advertised, the chosen manifest, a
 -- range file of it that isn't there.
 abbrev pub set_of : List File → ℕ → Result RestoreSet ViewFault
-set_of [] version = Err faults.NoContainer
-set_of (file ∷ files) version = do
-  unreliable ← property_read (file ∷ files) unreliable_text
-  expired ← property_read (file ∷ files) expired_text
-  set_by (file ∷ files) (map (λ (f : File). f.name) (file ∷ files)) (unwrap_or unreliable 0) version
+set_of files version = with_properties files (set_then files version)
 
 -- the set is of the chosen manifest and of its chain past the version
 pub record IsSetOf (folder : Folder) (version : ℕ) (set : RestoreSet) : Type 0 where

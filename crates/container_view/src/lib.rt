@@ -2,6 +2,7 @@
 #![tactic(auto)]
 
 mod chaining;
+mod describing;
 mod laws;
 mod listing;
 mod logs;
@@ -12,6 +13,7 @@ mod versions;
 mod view;
 
 pub use chaining::{Link, chain, chain_past};
+pub use describing::{Description, Snapshot, describe, describe_names};
 pub use laws::{
     applied_law, bounds_law, chain_law, change_law, chosen_law, container_law, contents_law,
     file_law, given_law, growth_law, honest_store_law, life_law, names_law, property_law,

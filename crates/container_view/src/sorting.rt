@@ -2,10 +2,13 @@
 
 ghost use Rattle.std.specs.Prelude.{◌≡◌, ◌++◌, IfOk, OnOk};
 ghost use Rattle.container_view.specs.Names.{as_named_manifest, manifests_named};
-ghost use Rattle.container_view.specs.inner.Listed.{log_named, listed, plain_logs, logs_of, manifests_of, AreSorted};
+ghost use Rattle.container_view.specs.Description.{as_sealed, sealed_named, log_span};
+ghost use Rattle.container_view.specs.inner.Listed.{log_named, listed, plain_logs, logs_of, manifests_of, sizes_of, AreSorted};
 ghost use Rattle.file_names.specs.Reading.{name_of};
 
+use crate::Bounds;
 use crate::logs::NamedLog;
+use crate::versions::wider;
 use fb_bytes::{Names, Text};
 use file_names::{Name, parse};
 use std::alloc::{AllocError, Global};
@@ -16,14 +19,17 @@ pub(crate) struct NamedManifest<'a> {
     pub name: &'a Text,
     pub begin: u64,
     pub end: u64,
+    /// Of its range files together.
+    pub bytes: u64,
 }
 
-/// Names, the log files among them in the order of their begins, and the manifests in that of the
-/// names.
+/// Names, the log files among them in the order of their begins, from their least begin to their
+/// greatest end, and the manifests in the order of the names.
 #[derive(Debug, Drop)]
 pub(crate) struct SortedNames<'a> {
     pub names: &'a Names,
     pub logs: Vec<NamedLog<'a>>,
+    pub span: Option<Bounds>,
     pub manifests: Vec<NamedManifest<'a>>,
 }
 
@@ -31,6 +37,7 @@ pub(crate) struct SortedNames<'a> {
 #[derive(Debug, Drop)]
 struct Found<'a> {
     logs: Vec<NamedLog<'a>>,
+    span: Option<Bounds>,
     manifests: Vec<NamedManifest<'a>>,
 }
 
@@ -42,12 +49,14 @@ pub(crate) fn sorted_names(alloc: Global, names: &Names) -> Result<SortedNames<'
     let found = parsed(alloc, names.as_slice())?;
     let Found {
         mut logs,
+        span,
         manifests,
     } = found;
     logs.sort_by_key(|log| log.begin)?;
     Ok(SortedNames {
         names,
         logs,
+        span,
         manifests,
     })
 }
@@ -57,9 +66,13 @@ fn parsed<'a>(alloc: Global, names: &'a [Text]) -> Result<Found<'a>, AllocError>
     ensures logs { IfOk result (λ parsed. logs_of parsed.logs.items ≡ plain_logs names.now) }
     ensures manifests { IfOk result
         (λ parsed. manifests_of parsed.manifests.items ≡ manifests_named names.now) }
+    ensures span { IfOk result (λ parsed. parsed.span ≡ log_span (logs_of parsed.logs.items)) }
+    ensures sizes { IfOk result
+        (λ parsed. sizes_of parsed.manifests.items ≡ sealed_named names.now) }
 {
     let mut parsed = Found {
         logs: Vec::new(alloc),
+        span: None,
         manifests: Vec::new(alloc),
     };
     'names: for name in names {
@@ -76,12 +89,30 @@ fn note<'a>(parsed: &mut Found<'a>, name: &'a Text) -> Result<(), AllocError>
     ensures manifests { OnOk result
         (manifests_of parsed.new.manifests.items ≡ manifests_of parsed.old.manifests.items
         ++ as_named_manifest name.now (name_of name.now)) }
+    ensures span { OnOk result (parsed.old.span ≡ log_span (logs_of parsed.old.logs.items)
+        → parsed.new.span ≡ log_span (logs_of parsed.new.logs.items)) }
+    ensures sizes { OnOk result
+        (sizes_of parsed.new.manifests.items ≡ sizes_of parsed.old.manifests.items
+        ++ as_sealed name.now (name_of name.now)) }
 {
     match parse(name.as_bytes()) {
-        Name::Log { begin, end, .. } => parsed.logs.push(NamedLog { name, begin, end })?,
-        Name::Manifest { begin, end, .. } => parsed
-            .manifests
-            .push(NamedManifest { name, begin, end })?,
+        Name::Log { begin, end, .. } => {
+            parsed.logs.push(NamedLog { name, begin, end })?;
+            let least = begin;
+            let greatest = end;
+            parsed.span = wider(parsed.span, Some(Bounds { least, greatest }));
+        }
+        Name::Manifest {
+            begin,
+            end,
+            bytes,
+            ..
+        } => parsed.manifests.push(NamedManifest {
+            name,
+            begin,
+            end,
+            bytes,
+        })?,
         Name::Range { .. } | Name::Unreliable | Name::Expired | Name::Other => {}
     }
     Ok(())

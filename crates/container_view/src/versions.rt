@@ -52,7 +52,7 @@ pub(crate) fn sorted_bounds(
 }
 
 /// The bounds of the versions that a manifest gives.
-fn given(runs: &[Run], unreliable: u64, manifest: &NamedManifest<'_>) -> Option<Bounds>
+pub(crate) fn given(runs: &[Run], unreliable: u64, manifest: &NamedManifest<'_>) -> Option<Bounds>
     requires { IsRisingBy (λ run. run.begin) 0 runs.now }
     ensures { result ≡ given_named (reach_in runs.now) unreliable (manifest_of manifest.now) }
 {
@@ -70,7 +70,7 @@ fn given(runs: &[Run], unreliable: u64, manifest: &NamedManifest<'_>) -> Option<
 }
 
 /// The bounds of both.
-fn wider(a: Option<Bounds>, b: Option<Bounds>) -> Option<Bounds>
+pub(crate) fn wider(a: Option<Bounds>, b: Option<Bounds>) -> Option<Bounds>
     ensures { result ≡ spec.wider a b }
 {
     let Some(first) = a else {

@@ -8,16 +8,29 @@ use Rattle.cluster_core.specs.declared.Answer.{Answer}
 use Rattle.cluster_core.specs.declared.StepFault.{StepFault}
 use Rattle.cluster_core.specs.declared.StepFault.TheVariants as steps
 use Rattle.cluster_core.specs.State.{State}
+use Rattle.cluster_core.specs.Step.{Step}
 use Rattle.report_text.specs.declared.EventLine.{EventLine}
 use Rattle.fb_cli.specs.declared.fault.Fault.{Fault}
 use Rattle.fb_cli.specs.Faults.{fault_of, last_fault}
-use Rattle.fb_cli.specs.Runs.{TellsStep, Tells, schedule_of}
+use Rattle.fb_cli.specs.Runs.{event_of, command_of, TellsTurns, Tells, schedule_of}
 use Rattle.fb_cli.specs.Replays.{IsPlayed}
+
+-- ---- one line
+
+-- one step of the machine is a line of one turn
+pub one_turn : (p : Workload) (old new : State) (line : EventLine) → Step p old (event_of line.line) line.answer new → (line.answer ≡ Err steps.NoMemory → ⊥) → line.command ≡ command_of p old line.line → TellsTurns p old line new
+one_turn p old new line step memory command = record {
+  turns = record { event = event_of line.line; answer = line.answer } ∷ [];
+  told = refl;
+  run = (new, step, refl);
+  memory = memory;
+  command = command;
+}
 
 -- ---- one more line
 
-Tells-snoc : (p : Workload) (old middle new : State) (lines : List EventLine) (line : EventLine) → Tells p old lines middle → TellsStep p middle line new → Tells p old (lines ++ line ∷ []) new
-Tells-snoc p old middle new [] line r k = (new, subst (λ (w : State). TellsStep p w line new) (sym r) k, refl)
+Tells-snoc : (p : Workload) (old middle new : State) (lines : List EventLine) (line : EventLine) → Tells p old lines middle → TellsTurns p middle line new → Tells p old (lines ++ line ∷ []) new
+Tells-snoc p old middle new [] line r k = (new, subst (λ (w : State). TellsTurns p w line new) (sym r) k, refl)
 Tells-snoc p old middle new (l ∷ ls) line r k = (r.0, r.1, Tells-snoc p r.0 middle new ls line r.2 k)
 
 map-snoc : {X Y : Type 0} (f : X → Y) (xs : List X) (x : X) → map f (xs ++ x ∷ []) ≡ map f xs ++ f x ∷ []
@@ -25,9 +38,9 @@ map-snoc f [] x = refl
 map-snoc f (y ∷ ys) x = ap (λ zs. f y ∷ zs) (map-snoc f ys x)
 
 -- the same where the longer list has a name, and the step was made of a workload of a name
-pub run_more : (p q : Workload) (old middle new : State) (lines all : List EventLine) (line : EventLine) → all ≡ lines ++ line ∷ [] → q ≡ p → Tells p old lines middle → TellsStep q middle line new → Tells p old all new
+pub run_more : (p q : Workload) (old middle new : State) (lines all : List EventLine) (line : EventLine) → all ≡ lines ++ line ∷ [] → q ≡ p → Tells p old lines middle → TellsTurns q middle line new → Tells p old all new
 run_more p q old middle new lines all line a e r k =
-    subst (λ (xs : List EventLine). Tells p old xs new) (sym a) (Tells-snoc p old middle new lines line r (subst (λ (x : Workload). TellsStep x middle line new) e k))
+    subst (λ (xs : List EventLine). Tells p old xs new) (sym a) (Tells-snoc p old middle new lines line r (subst (λ (x : Workload). TellsTurns x middle line new) e k))
 
 -- the schedule's lines so far
 pub lines_more : (lines all : List EventLine) (told : EventLine) (schedule : List ScheduleLine) (i : ℕ) (d : ScheduleLine) → all ≡ lines ++ told ∷ [] → schedule_of lines ≡ take i schedule → i < length schedule → told.line ≡ get_or schedule i d → schedule_of all ≡ take (i + 1) schedule

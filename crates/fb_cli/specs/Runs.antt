@@ -21,7 +21,7 @@ use Rattle.cluster_core.specs.declared.StepFault.TheVariants.{NoMemory}
 use Rattle.cluster_core.specs.Elsewhere.{told_of}
 use Rattle.cluster_core.specs.Jobs.{JobTold, job_told}
 use Rattle.cluster_core.specs.State.{State, on_side, opening}
-use Rattle.cluster_core.specs.Step.{Step}
+use Rattle.cluster_core.specs.Step.{Turn, Run}
 use Rattle.cluster_core.specs.Sound.{IsOrdered, other_side}
 use Rattle.workload_text.specs.declared.CommandKind.{CommandKind}
 use Rattle.workload_text.specs.Kinds.{kind_of}
@@ -50,22 +50,30 @@ command_of workload state (lines.Begin client) = None
 command_of workload state (lines.Commit client) = None
 command_of workload state lines.Op = next_kind workload state
 
--- An event line tells a step of the machine, for which there was memory, and the command that it
--- was of.
-pub record TellsStep
+-- The turns of the machine that an event line tells: one, of its event, with its answer.
+abbrev pub AreTurnsOf : EventLine → List Turn → Type 0
+AreTurnsOf told turns =
+    turns ≡ record { event = event_of told.line; answer = told.answer } ∷ []
+
+-- An event line tells turns of the machine, for which there was memory, and the command that they
+-- were of.
+pub record TellsTurns
     (workload : Workload)
     (old : State)
     (line : EventLine)
     (new : State) : Type 0 where
-  pub step : Step workload old (event_of line.line) line.answer new
+  pub turns : List Turn
+  pub told : AreTurnsOf line turns
+  pub run : Run workload old turns new
   pub memory : line.answer ≢ Err NoMemory
   pub command : line.command ≡ command_of workload old line.line
 
--- From old, the event lines tell a run of the machine that ends in new.
+-- From old, the event lines tell a run of the machine that ends in new: each goes on from where the
+-- one before it came to.
 abbrev pub Tells : Workload → State → List EventLine → State → Type 0
 Tells workload old [] new = old ≡ new
 Tells workload old (line ∷ rest) new =
-    (middle : State) × TellsStep workload old line middle × Tells workload middle rest new
+    (middle : State) × TellsTurns workload old line middle × Tells workload middle rest new
 
 -- the lines of the schedule that these event lines are of
 abbrev pub schedule_of : List EventLine → List ScheduleLine

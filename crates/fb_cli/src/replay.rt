@@ -6,7 +6,7 @@ ghost use Rattle.fb_cli.specs.Causes.{RoseInEach};
 ghost use Rattle.fb_cli.specs.Faults.{status_of, fault_of, last_fault};
 ghost use Rattle.fb_cli.specs.Fronts.{PlaysFront, LeavesFront};
 ghost use Rattle.fb_cli.specs.Outside.{stream_change, store_change};
-ghost use Rattle.fb_cli.specs.Runs.{event_of, command_of, next_kind, schedule_of, TellsStep, Tells, IsRunReport, fault_in};
+ghost use Rattle.fb_cli.specs.Runs.{event_of, command_of, next_kind, schedule_of, TellsTurns, Tells, IsRunReport, fault_in};
 ghost use Rattle.fb_cli.specs.Replays.{IsPlayed, Replays, OwesStore, ReadsText};
 
 use crate::fault::{Fault, last_fault};
@@ -149,7 +149,7 @@ fn make_steps<V: Vault>(
 // Makes the step of one line of a schedule.
 fn make_step<V: Vault>(world: &mut World<V>, line: ScheduleLine) -> Result<EventLine, AllocError>
     ensures step { IfOk result
-        (λ told. TellsStep world.old.workload world.old.state told world.new.state) }
+        (λ told. TellsTurns world.old.workload world.old.state told world.new.state) }
     ensures line { IfOk result (λ told. told.line ≡ line) }
     ensures workload { world.new.workload ≡ world.old.workload }
     ensures faults { IfOk result

@@ -15,6 +15,7 @@ use Rattle.container_view.specs.Folder.{LogFile, ManifestFile}
 use Rattle.container_view.specs.Chain.{comes_first, best_log}
 use Rattle.container_view.specs.Bounds.{reached}
 use Rattle.container_view.specs.Names.{seen, logs_named, manifests_named}
+use Rattle.container_view.specs.Description.{Sealed, sealed_named, log_span}
 
 -- a log file of which the name, the begin and the end are known
 abbrev pub plain_log : Bytes → ℕ → ℕ → LogFile
@@ -36,6 +37,14 @@ manifest_of m = record { name = m.name.now; begin = m.begin; end = m.end; conten
 -- manifests by their names, as a folder has them
 abbrev pub manifests_of : List NamedManifest → List ManifestFile
 manifests_of manifests = map manifest_of manifests
+
+-- a manifest with the bytes that its name says
+abbrev pub size_of : NamedManifest → Sealed
+size_of m = record { file = manifest_of m; bytes = m.bytes }
+
+-- manifests with the bytes that their names say
+abbrev pub sizes_of : List NamedManifest → List Sealed
+sizes_of manifests = map size_of manifests
 
 -- the log file of a name, where it is that of one
 abbrev pub log_named : Bytes → Name → Option LogFile
@@ -119,6 +128,8 @@ pub record AreSorted (sorted : SortedNames) : Type 0 where
   pub rising : IsRisingBy (λ log. log.begin) 0 sorted.logs.items
   pub same : HaveSameBest (logs_of sorted.logs.items) (logs_named sorted.names.now)
   pub manifests : manifests_of sorted.manifests.items ≡ manifests_named sorted.names.now
+  pub span : sorted.span ≡ log_span (logs_named sorted.names.now)
+  pub sizes : sizes_of sorted.manifests.items ≡ sealed_named sorted.names.now
 
 -- what is found in the first list is the best log of the second, at each version
 abbrev pub TellsBest : List LogFile → List LogFile → Type 0

@@ -5,6 +5,7 @@ use Rattle.fb_bytes.specs.Bytes.{Bytes}
 use Rattle.container_view.specs.Folder.{ManifestFile}
 use Rattle.container_view.specs.Chain.{comes_first}
 use Rattle.container_view.specs.Bounds.{Bounds, is_given}
+use Rattle.container_view.specs.Description.{Sealed, Snapshot, greatest_of}
 
 -- the first of a name with an end and another one
 abbrev pub first_of : Bytes → ℕ → Option (Bytes × ℕ) → Option (Bytes × ℕ)
@@ -27,3 +28,13 @@ abbrev pub given_named : (ℕ → ℕ) → ℕ → ManifestFile → Option Bound
 given_named reach unreliable m =
     if nat_le unreliable m.begin && (nat_lt m.end (reach m.begin) || m.begin == m.end)
     then Some (record { least = m.end; greatest = max m.end (reach m.begin - 1) }) else None
+
+-- a snapshot, by its manifest and by the ends that are reached
+abbrev pub snapshot_with : (ℕ → ℕ) → ℕ → Sealed → Snapshot
+snapshot_with reach unreliable m =
+    record {
+      begin = m.file.begin;
+      end = m.file.end;
+      bytes = m.bytes;
+      greatest = greatest_of (given_named reach unreliable m.file);
+    }
