@@ -40,7 +40,7 @@ fn dump(
 
 /// A job from version 10 on, with the keys from `a` to `m` dumped at version 20.
 fn begun(alloc: Global, ranges: &Ranges) -> Result<BackupJob, AllocError> {
-    let mut job = BackupJob::new(alloc, ranges, 10)?;
+    let mut job = BackupJob::new(alloc, 1, Mode::Hand, ranges, 10)?;
     dump(alloc, &mut job, (b"a", b"m"), ("one", 20))?;
     Ok(job)
 }
@@ -48,7 +48,7 @@ fn begun(alloc: Global, ranges: &Ranges) -> Result<BackupJob, AllocError> {
 #[test]
 fn the_first_dump_numbers_the_snapshot(rt: HostRuntime) -> Result<(), Fail> {
     let ranges = ranges(rt.alloc())?;
-    let fresh = BackupJob::new(rt.alloc(), &ranges, 10)?;
+    let fresh = BackupJob::new(rt.alloc(), 1, Mode::Hand, &ranges, 10)?;
     assert_eq!(rt;
         (fresh.begin(), fresh.next(), fresh.snapshot_at(20)),
         (10, 10, 20)

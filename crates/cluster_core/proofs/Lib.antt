@@ -15,6 +15,7 @@ mod Worlds
 pub mod LeastKeys
 mod Filings
 pub mod Footprints
+pub mod Started
 mod Touching
 mod plans
 mod commands

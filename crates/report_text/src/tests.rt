@@ -7,7 +7,7 @@ use crate::printing::{put_details, put_newest};
 use atomic_ops::Op;
 use block_frame::Profile;
 use client_core::{Client, End, Outcomes};
-use cluster_core::{Answer, JobState, Refusal, StepFault};
+use cluster_core::{Answer, JobKind, JobState, Refusal, StepFault};
 use database::{CommitFault, Db};
 use fb_bytes::{Blob, Seq, SharedSeq, Text};
 use mutations::{Entry, Mutation, TxOp, TxOps, Who};
@@ -120,7 +120,7 @@ fn played_bytes(alloc: Global, played: &Played) -> Result<Blob, AllocError> {
         &played.src,
         &Seq::new(alloc),
     )?;
-    put_job(&mut out, 1, &tag, JobState::Running)?;
+    put_job(&mut out, 1, &tag, JobKind::Hand, JobState::Running)?;
     put_newest(&mut out, played.end)?;
     Ok(out)
 }
@@ -276,22 +276,28 @@ fn refusals_with_keys(rt: HostRuntime) -> Result<(), Fail> {
 
 #[test]
 fn jobs_in_each_state(rt: HostRuntime) -> Result<(), Fail> {
-    let rows: [(usize, JobState, &[u8]); 6] = [
-        (1, JobState::Submitted, b"job 1 a hand submitted\n"),
-        (2, JobState::Running, b"job 2 a hand running\n"),
+    let rows: [(u64, JobKind, JobState, &[u8]); 6] = [
+        (1, JobKind::Hand, JobState::Submitted, b"job 1 a hand submitted\n"),
+        (2, JobKind::Hand, JobState::Running, b"job 2 a hand running\n"),
         (
             3,
+            JobKind::Backup,
             JobState::RunningDifferential,
-            b"job 3 a hand running-differential\n",
+            b"job 3 a backup running-differential\n",
         ),
-        (4, JobState::Completed, b"job 4 a hand completed\n"),
-        (5, JobState::Aborted, b"job 5 a hand aborted\n"),
-        (10, JobState::Failed, b"job 10 a hand failed\n"),
+        (
+            4,
+            JobKind::Restore,
+            JobState::Completed,
+            b"job 4 a restore completed\n",
+        ),
+        (5, JobKind::Dr, JobState::Aborted, b"job 5 a dr aborted\n"),
+        (10, JobKind::Hand, JobState::Failed, b"job 10 a hand failed\n"),
     ];
     let tag = Text::from_str(rt.alloc(), "a")?;
-    for (number, state, text) in rows {
+    for (number, kind, state, text) in rows {
         let mut out = Blob::new(rt.alloc());
-        put_job(&mut out, number, &tag, state)?;
+        put_job(&mut out, number, &tag, kind, state)?;
         assert_eq!(rt; out.as_slice(), text);
     }
     Ok(())
