@@ -4,6 +4,7 @@ mod Answered
 mod All
 mod Known
 mod Named
+mod Numbering
 mod Grown
 mod Puts
 mod Frames

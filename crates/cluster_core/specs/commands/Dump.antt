@@ -38,7 +38,7 @@ dump_name settings state backup =
 abbrev pub dump_done : Settings → machine.State → Backup → KeyRange → plans.Done
 dump_done settings state backup piece =
     record {
-      name = dump_name settings state job;
+      name = dump_name settings state backup;
       version = state.time;
       bytes = length (dump_bytes settings state backup piece);
     }

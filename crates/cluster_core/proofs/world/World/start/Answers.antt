@@ -67,8 +67,8 @@ returns-in-Ok-begin_log-clause-step g c =
     (s.0, subst (λ (seen : Seen). step seen.workload seen.state events.Command s.0 ≡ moved (Ok answers.Done) (state_of c.self.inside.clients.items c.begin_log.new.src c.begin_log.new.dst c.begin_log.new.versions (record { jobs = c.push.new.self.items; place = c.next_place-self-inside.result; tickets = c.self.inside.tickets }) (g.V.Vault.files c.self.inside.vault))) c.self.view_is s.1)
 
 pub invariant_of-self-in-Err : goal.invariant_of-self-in-Err
-invariant_of-self-in-Err g c = start_undone_world c.self.inside.workload c.self.inside.src c.self.inside.dst c.begin_log.new.src c.begin_log.new.dst c.self.inside.versions c.begin_log.new.versions c.self.inside.clients.items (record { jobs = c.self.inside.jobs.items; place = c.self.inside.place; tickets = c.self.inside.tickets }) (g.V.Vault.files c.self.inside.vault) c.truncate.new.self.items c.in-Err.ensures.err (c.truncate.ensures.items ∙ ap (take c.len-count.result) c.in-Ok.ensures.items ∙ taken_back c.self.inside.jobs.items c.len-count.result c.new-job.result (c.len-count.ensures ∙ c.self.inside.jobs.ok.0)) c.self.invariant
+invariant_of-self-in-Err g c = start_undone_world c.self.inside.workload c.self.inside.src c.self.inside.dst c.begin_log.new.src c.begin_log.new.dst c.self.inside.versions c.begin_log.new.versions c.self.inside.clients.items (record { jobs = c.self.inside.jobs.items; place = c.self.inside.place; tickets = c.self.inside.tickets }) (g.V.Vault.files c.self.inside.vault) c.truncate.new.self.items c.in-Err.ensures.err (c.truncate.ensures.items ∙ ap (take c.len-count.result) c.in-Ok.ensures.items ∙ taken_back c.self.inside.jobs.items c.len-count.result (types.Backup c.new-backup.result) (c.len-count.ensures ∙ c.self.inside.jobs.ok.0)) c.self.invariant
 
 pub returns-in-Err-clause-step : goal.returns-in-Err-clause-step
 returns-in-Err-clause-step g c =
-    (Starved, ap (moved (Err NoMemory)) (ap (λ (s : Seen). s.state) (sym c.self.view_is) ∙ sym (start_undone c.self.inside.src c.self.inside.dst c.begin_log.new.src c.begin_log.new.dst c.self.inside.versions c.begin_log.new.versions c.self.inside.clients.items (record { jobs = c.self.inside.jobs.items; place = c.self.inside.place; tickets = c.self.inside.tickets }) (g.V.Vault.files c.self.inside.vault) c.truncate.new.self.items c.in-Err.ensures.err (c.truncate.ensures.items ∙ ap (take c.len-count.result) c.in-Ok.ensures.items ∙ taken_back c.self.inside.jobs.items c.len-count.result c.new-job.result (c.len-count.ensures ∙ c.self.inside.jobs.ok.0)))))
+    (Starved, ap (moved (Err NoMemory)) (ap (λ (s : Seen). s.state) (sym c.self.view_is) ∙ sym (start_undone c.self.inside.src c.self.inside.dst c.begin_log.new.src c.begin_log.new.dst c.self.inside.versions c.begin_log.new.versions c.self.inside.clients.items (record { jobs = c.self.inside.jobs.items; place = c.self.inside.place; tickets = c.self.inside.tickets }) (g.V.Vault.files c.self.inside.vault) c.truncate.new.self.items c.in-Err.ensures.err (c.truncate.ensures.items ∙ ap (take c.len-count.result) c.in-Ok.ensures.items ∙ taken_back c.self.inside.jobs.items c.len-count.result (types.Backup c.new-backup.result) (c.len-count.ensures ∙ c.self.inside.jobs.ok.0)))))
