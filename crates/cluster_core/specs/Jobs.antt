@@ -11,7 +11,7 @@ use Rattle.database.specs.declared.JobLog.{JobLog}
 use Rattle.backup_core.specs.Backups.{log_of}
 use Rattle.backup_core.specs.declared.Mode.{Mode}
 use Rattle.backup_core.specs.declared.Mode.TheVariants as modes
-use Rattle.cluster_core.specs.Backups.{Backup, FoundBackup}
+use Rattle.cluster_core.specs.Backups.{FoundBackup}
 pub use Rattle.cluster_core.specs.declared.job.Job.{Job}
 use Rattle.cluster_core.specs.declared.job.Job.TheVariants as types
 use Rattle.cluster_core.specs.declared.job_kind.JobKind.{JobKind}

@@ -14,7 +14,7 @@ use Rattle.backup_core.specs.Backups.{cut_to}
 use Rattle.cluster_core.specs.Jobs.{Job}
 use Rattle.cluster_core.specs.Sound.{BackupSound}
 use Rattle.cluster_core.proofs.Known.{Known}
-use Rattle.std.specs.Prelude.{nat_lt, ◌≡◌, ℕ, zero, suc, ◌+◌, ◌^◌, ◌<◌, ◌≤◌, Bool, true, false, not, ◌&&◌, cond, List, [], ◌∷◌, length, Some, slice_get, slice_index_or, if◌then◌else◌, refl}
+use Rattle.std.specs.Prelude.{nat_lt, ◌≡◌, ℕ, ◌+◌, ◌^◌, ◌<◌, ◌≤◌, Bool, true, false, not, cond, List, [], ◌∷◌, length, Some, slice_get, if◌then◌else◌, refl}
 use Rattle.std.proofs.Common.{ap, sym, ◌∙◌, arith, subst}
 use Rattle.std.proofs.lemmas.Bool.{lt-ltb, le-ltb}
 use Rattle.std.proofs.lemmas.Option.{slice_get_within}
@@ -26,7 +26,6 @@ use Rattle.log_files.specs.Writing.{log_text}
 use Rattle.log_files.specs.Writing as logs
 use Rattle.container_view.specs.Files.{whole_name}
 use Rattle.workload_text.specs.declared.Side.{Side}
-use Rattle.workload_text.specs.declared.Side.TheVariants.{Src, Dst}
 use Rattle.workload_text.specs.declared.Settings.{Settings}
 use Rattle.workload_text.specs.declared.Workload.{Workload}
 use Rattle.database.specs.declared.JobLog.{JobLog}

@@ -1,7 +1,6 @@
 -- The command dump.
 use Rattle.cluster_core.specs.declared.job.Job.TheVariants as types
 use Rattle.cluster_core.specs.Backups.{Backup}
-use Rattle.task_kinds.specs.States.{has_ended}
 use Rattle.std.specs.Prelude.{◌≡◌, ℕ, ◌+◌, ◌≤◌, Bool, true, false, not, ◌||◌, List, [], ◌∷◌, None, refl}
 use Rattle.std.specs.List.{AllByRecursion}
 use Rattle.std.proofs.Common.{ap, sym, ◌∙◌, arith, subst}

@@ -2,7 +2,6 @@
 use Rattle.std.specs.Prelude.{◌≡◌, ℕ, zero, suc, ◌+◌, ◌<◌, Bool, true, false, cond, List, [], ◌∷◌, length, Option, Some, None, slice_get, slice_index_or, option_map, if◌then◌else◌, refl}
 use Rattle.std.proofs.Common.{ap, sym, ◌∙◌, arith}
 use Rattle.cluster_core.specs.declared.job.Job.TheVariants as types
-use Rattle.cluster_core.specs.Backups.{Backup}
 use Rattle.task_kinds.specs.States.{has_ended}
 use Rattle.task_kinds.specs.declared.JobState.{JobState}
 use Rattle.cluster_core.specs.Backups.{FoundBackup}
@@ -10,7 +9,6 @@ use Rattle.cluster_core.specs.Jobs.{terms_of, with_backup, on_backup}
 use Rattle.std.proofs.lemmas.Option.{get_or_from_slice_get}
 use Rattle.fb_bytes.specs.Bytes.{Bytes}
 use Rattle.workload_text.specs.declared.Workload.{Workload}
-use Rattle.backup_core.specs.Backups.{BackupJob}
 use Rattle.cluster_core.specs.Jobs.{Job}
 use Rattle.cluster_core.specs.State.{State}
 use Rattle.cluster_core.specs.commands.Shared.{refuses}
@@ -24,7 +22,6 @@ use Rattle.cluster_core.specs.Moves.{Moved}
 use Rattle.cluster_core.specs.commands.Shared.{refuses, on_running, on_found}
 use Rattle.std.specs.Prelude.{◌≡◌, ℕ, zero, suc, ◌<◌, Bool, false, List, [], ◌∷◌, length, Option, Some, None, option_map, slice_get, refl}
 use Rattle.std.proofs.Common.{ap, sym, ◌∙◌, get_or}
-use Rattle.backup_core.specs.Backups.{BackupJob}
 use Rattle.cluster_core.specs.declared.plan.Running.TheVariants.{At}
 use Rattle.cluster_core.specs.Jobs.{Job, Found, newest}
 use Rattle.cluster_core.specs.inner.Plans.{IsRunning}

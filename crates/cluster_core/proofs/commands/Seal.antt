@@ -1,7 +1,6 @@
 -- The command seal.
 use Rattle.cluster_core.specs.declared.job.Job.TheVariants as types
 use Rattle.cluster_core.specs.Backups.{Backup}
-use Rattle.task_kinds.specs.States.{has_ended}
 use Rattle.std.specs.Prelude.{◌≡◌, ℕ, ◌+◌, ◌≤◌, Bool, true, false, not, List, [], ◌∷◌, None, refl}
 use Rattle.std.specs.List.{AllByRecursion}
 use Rattle.std.proofs.Common.{ap, sym, ◌∙◌, arith, subst}
@@ -17,7 +16,7 @@ use Rattle.backup_core.specs.Backups.{map_of, sealed}
 use Rattle.cluster_core.specs.Jobs.{Job, with_backup}
 use Rattle.cluster_core.specs.Sound.{IsNoted, BackupSound}
 use Rattle.cluster_core.proofs.Known.{Known}
-use Rattle.std.specs.Prelude.{Err, nat_lt, ◌≡◌, ℕ, ◌+◌, ◌<◌, ◌≤◌, Bool, true, false, not, cond, List, [], ◌∷◌, length, Option, Some, None, ◌⊎◌, slice_get, slice_index_or, option_map, refl}
+use Rattle.std.specs.Prelude.{Err, nat_lt, ◌≡◌, ℕ, ◌+◌, ◌<◌, ◌≤◌, Bool, true, false, not, cond, List, [], ◌∷◌, length, Option, Some, None, ◌⊎◌, slice_get, option_map, refl}
 use Rattle.std.proofs.Common.{ap, sym, ◌∙◌, arith, subst, inl, inr}
 use Rattle.std.proofs.lemmas.Bool.{le-ltb}
 use Rattle.fb_bytes.specs.Bytes.{Bytes}
@@ -40,7 +39,6 @@ use Rattle.cluster_core.specs.Jobs.{Job, with_backup}
 use Rattle.cluster_core.specs.State.{State, history_on}
 use Rattle.cluster_core.specs.declared.event.StepFault.TheVariants.{NoMemory}
 use Rattle.cluster_core.specs.Moves.{moved, Luck}
-use Rattle.cluster_core.specs.commands.Shared.{refuses}
 use Rattle.cluster_core.specs.commands.Seal.{seal_name, seal_fitting, snapshot_bytes, seal_tested, seal_job}
 use Rattle.cluster_core.specs.inner.Plans.{planned, IsPlanAt, IsSafe}
 use Rattle.cluster_core.specs.Sound.{IsNoted, Sound}
@@ -54,7 +52,6 @@ use Rattle.cluster_core.specs.declared.event.StepFault.TheVariants.{NoMemory}
 use Rattle.cluster_core.specs.Backups.{FoundBackup}
 use Rattle.cluster_core.specs.State.{State, history_on}
 use Rattle.cluster_core.specs.Moves.{Luck, moved}
-use Rattle.cluster_core.specs.commands.Shared.{refuses}
 use Rattle.cluster_core.specs.commands.Seal.{seal_name, with_seal, seal_fitting, snapshot_bytes, seal_tested, seal_job}
 use Rattle.manifests.specs.Grammar.{manifest_text}
 use Rattle.snapshot_plan.specs.Noted.{manifest_of, most_bytes}
@@ -71,7 +68,6 @@ use Rattle.backup_core.specs.Backups.{BackupJob, manifest_name}
 use Rattle.cluster_core.specs.Backups.{FoundBackup}
 use Rattle.cluster_core.specs.State.{State, history_on}
 use Rattle.cluster_core.specs.Moves.{Luck, moved}
-use Rattle.cluster_core.specs.commands.Shared.{refuses}
 use Rattle.cluster_core.specs.Sound.{IsNoted, IsDrawn, IsThere, BackupSound, IsStored, Sound, source_of}
 use Rattle.cluster_core.proofs.Named.{named, manifest_spelled}
 use Rattle.cluster_core.proofs.Grown.{job_grown}

@@ -1,5 +1,5 @@
 -- The event commit.
-use Rattle.std.specs.Prelude.{◌≡◌, ℕ, ◌+◌, ◌++◌, Bool, true, false, cond, List, [], ◌∷◌, Option, Some, None, Result, Ok, Err, slice_get, refl}
+use Rattle.std.specs.Prelude.{◌≡◌, ℕ, ◌+◌, ◌++◌, Bool, false, cond, List, [], ◌∷◌, Option, Some, None, Result, Ok, Err, slice_get, refl}
 use Rattle.std.specs.Prelude.{◌≤◌, ◌⊎◌}
 use Rattle.std.proofs.Common.{subst, arith, inl, inr}
 use Rattle.fb_bytes.specs.Options.{◌>>=◌}
@@ -21,10 +21,10 @@ use Rattle.mutations.specs.declared.Mutation.{Mutation}
 use Rattle.mutations.specs.declared.history.Who.{Who}
 use Rattle.mutations.specs.declared.TxOp.{TxOp}
 use Rattle.mutations.specs.Transactions.{writes_of}
-use Rattle.std.specs.Prelude.{◌≡◌, ℕ, zero, suc, ◌+◌, ◌^◌, ◌<◌, ◌≤◌, Bool, true, false, not, ◌&&◌, List, [], ◌∷◌, ◌++◌, length, Option, Some, None, Result, Ok, Err, slice_get, if◌then◌else◌, refl}
+use Rattle.std.specs.Prelude.{◌≡◌, ℕ, zero, suc, ◌+◌, ◌^◌, ◌<◌, ◌≤◌, Bool, false, List, [], ◌∷◌, ◌++◌, length, Option, Some, None, Result, Ok, Err, slice_get, refl}
 use Rattle.std.specs.List.{AllByRecursion}
 use Rattle.std.proofs.Common.{ap, sym, ◌∙◌, arith, subst, cond, length-append}
-use Rattle.std.proofs.lemmas.Bool.{eq-eqb, ne_eqb, and_from}
+use Rattle.std.proofs.lemmas.Bool.{eq-eqb, ne_eqb}
 use Rattle.mutations.specs.declared.Who.{Who}
 use Rattle.mutations.specs.declared.Who.TheVariants as who
 use Rattle.mutations.specs.Clipping.{all_clipped}

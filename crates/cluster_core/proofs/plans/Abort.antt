@@ -1,8 +1,6 @@
 -- A plan that gives a job up is carried out.
-use Rattle.std.specs.Prelude.{◌≡◌, ℕ, zero, suc, ◌+◌, ◌<◌, Bool, true, false, not, ◌&&◌, cond, List, [], ◌∷◌, Option, Some, None, Ok, slice_get, slice_set, if◌then◌else◌, refl}
-use Rattle.std.specs.List.{AllByRecursion}
+use Rattle.std.specs.Prelude.{◌≡◌, ℕ, zero, suc, ◌+◌, Bool, true, false, List, [], ◌∷◌, Option, Some, None, Ok, slice_get, slice_set, if◌then◌else◌, refl}
 use Rattle.std.proofs.Common.{ap, sym, ◌∙◌, arith, subst}
-use Rattle.std.proofs.lemmas.Bool.{eq-eqb, ne_eqb}
 use Rattle.fb_outside.specs.declared.File.{File}
 use Rattle.versioned_kv.specs.declared.Versions.{Versions}
 use Rattle.workload_text.specs.declared.Side.{Side}
@@ -17,7 +15,6 @@ use Rattle.cluster_core.specs.declared.event.Answer.TheVariants as answers
 use Rattle.cluster_core.specs.declared.event.Event.TheVariants as events
 use Rattle.cluster_core.specs.declared.plan.Plan.TheVariants as plans
 use Rattle.cluster_core.specs.declared.job.Job.TheVariants as types
-use Rattle.cluster_core.specs.Backups.{Backup}
 use Rattle.cluster_core.specs.Jobs.{Job, terms_of, is_on, log_on, with_front, logs_of}
 use Rattle.backup_core.specs.Backups.{unless_ended, aborted_job}
 use Rattle.backup_core.specs.Backups.{log_of as log_of_backup}

@@ -15,7 +15,7 @@ use Rattle.cluster_core.specs.declared.plan.Running.TheVariants.{At, Refused}
 use Rattle.cluster_core.specs.declared.job.Job.{Job}
 use Rattle.task_kinds.specs.States.{has_ended}
 use Rattle.cluster_core.specs.Backups.{FoundBackup}
-use Rattle.cluster_core.specs.Jobs.{Found, newest, terms_of, state_of_job, log_on, on_backup}
+use Rattle.cluster_core.specs.Jobs.{Found, newest, state_of_job, log_on, on_backup}
 use Rattle.workload_text.specs.declared.Side.{Side}
 use Rattle.cluster_core.specs.State.{State, with_job}
 use Rattle.cluster_core.specs.Moves.{Luck, Moved, moved}

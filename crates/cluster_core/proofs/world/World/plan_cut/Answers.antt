@@ -1,4 +1,4 @@
-use Rattle.std.proofs.Common.{◌≡◌, ◌≤◌, ap, sym, ◌∙◌, subst}
+use Rattle.std.proofs.Common.{◌≤◌, ap, sym, ◌∙◌, subst}
 use Rattle.database.specs.Commits.{most_version}
 use Rattle.task_kinds.specs.States.{has_ended}
 use Rattle.backup_core.specs.Backups.{BackupJob}
