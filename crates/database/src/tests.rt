@@ -72,10 +72,10 @@ fn long_key(alloc: Global, number: u16, last: u8) -> Result<Blob, AllocError> {
     Ok(Blob::from_vec(bytes))
 }
 
-/// 1,000 ranges, whose begins and ends have 10,000 bytes each.
+/// 100 ranges, whose begins and ends have 10,000 bytes each.
 fn long_ranges(alloc: Global) -> Result<Ranges, Fail> {
     let mut list = Vec::new(alloc);
-    for number in 0..1000 {
+    for number in 0..100 {
         list.push(KeyRange {
             begin: long_key(alloc, number, 1)?,
             end: long_key(alloc, number, 2)?,
@@ -96,7 +96,7 @@ fn clears(alloc: Global, count: u64) -> Result<TxOps, AllocError> {
     Ok(ops)
 }
 
-/// What a commit of 250 clears answers where a job logs in 1,000 long ranges.
+/// What a commit of 2,200 clears answers where a job logs in 100 long ranges.
 fn answer_of_many(
     db: &mut Db,
     versions: &mut Versions,
@@ -104,7 +104,7 @@ fn answer_of_many(
 ) -> Result<Result<Option<u64>, CommitFault>, Fail> {
     let ranges = long_ranges(alloc)?;
     let _begin = add_log(db, versions, 1, &ranges)?;
-    let ops = clears(alloc, 250)?;
+    let ops = clears(alloc, 2_200)?;
     Ok(commit(db, versions, &ops))
 }
 
@@ -113,7 +113,7 @@ fn a_commit_that_a_log_has_no_room_for_is_refused(rt: HostRuntime) -> Result<(),
     let mut db = empty_db(rt.alloc(), 1_048_576)?;
     let mut versions = Versions { now: 0, pace: 10 };
     let answer = answer_of_many(&mut db, &mut versions, rt.alloc())?;
-    let bytes = 5_003_000_000;
+    let bytes = 4_402_640_000;
     assert!(rt; answer == Err(CommitFault::LogTooLarge { bytes }));
     assert_eq!(rt; versions.now, 10);
     assert!(rt; db.history().is_empty());
