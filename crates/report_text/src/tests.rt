@@ -277,8 +277,18 @@ fn refusals_with_keys(rt: HostRuntime) -> Result<(), Fail> {
 #[test]
 fn jobs_in_each_state(rt: HostRuntime) -> Result<(), Fail> {
     let rows: [(u64, JobKind, JobState, &[u8]); 6] = [
-        (1, JobKind::Hand, JobState::Submitted, b"job 1 a hand submitted\n"),
-        (2, JobKind::Hand, JobState::Running, b"job 2 a hand running\n"),
+        (
+            1,
+            JobKind::Hand,
+            JobState::Submitted,
+            b"job 1 a hand submitted\n",
+        ),
+        (
+            2,
+            JobKind::Hand,
+            JobState::Running,
+            b"job 2 a hand running\n",
+        ),
         (
             3,
             JobKind::Backup,
@@ -292,7 +302,12 @@ fn jobs_in_each_state(rt: HostRuntime) -> Result<(), Fail> {
             b"job 4 a restore completed\n",
         ),
         (5, JobKind::Dr, JobState::Aborted, b"job 5 a dr aborted\n"),
-        (10, JobKind::Hand, JobState::Failed, b"job 10 a hand failed\n"),
+        (
+            10,
+            JobKind::Hand,
+            JobState::Failed,
+            b"job 10 a hand failed\n",
+        ),
     ];
     let tag = Text::from_str(rt.alloc(), "a")?;
     for (number, kind, state, text) in rows {
