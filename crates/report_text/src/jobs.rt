@@ -1,6 +1,6 @@
 //! The lines of jobs.
 
-ghost use Rattle.std.specs.Prelude.{◌≡◌, ◌++◌, map, OnOk};
+ghost use Rattle.std.specs.Prelude.{◌≡◌, ◌++◌, [], ◌∷◌, map, OnOk};
 ghost use Rattle.cluster_core.specs.Jobs.{job_told};
 ghost use Rattle.report_text.specs.Jobs as spec;
 
@@ -38,6 +38,14 @@ pub fn put_job(
     put_field(out, b"job ", number)?;
     put(out, b" ")?;
     put(out, tag.as_bytes())?;
+    put_type(out, kind, state)
+}
+
+// A job's type and how far it has come, behind its tag.
+fn put_type(out: &mut Blob, kind: JobKind, state: JobState) -> Result<(), AllocError>
+    ensures { OnOk result (out.new
+        ≡ out.old ++ 32 ∷ (spec.kind_word kind ++ 32 ∷ (spec.state_word state ++ 10 ∷ []))) }
+{
     put(out, b" ")?;
     put(out, kind_word(kind).as_bytes())?;
     put(out, b" ")?;
