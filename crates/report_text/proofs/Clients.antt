@@ -1,7 +1,6 @@
 -- The lines of one client more.
 use Rattle.std.proofs.Common.{◌≡◌, ℕ, zero, suc, ◌+◌, List, [], ◌∷◌, ◌++◌, take, Some, slice_get, sym, ap, ◌∙◌, arith, add-one, add-zero, append_assoc, append-nil}
 use Rattle.std.specs.List.{flat_map}
-use Rattle.fb_bytes.specs.Bytes.{Bytes}
 use Rattle.client_core.specs.declared.Outcome.{Outcome}
 use Rattle.report_text.specs.Outcomes.{client_line, client_lines}
 
@@ -29,10 +28,3 @@ one_more_client before after from i all tries h b a =
     ∙ ap (λ c. from ++ (client_lines 1 (take i all) ++ flat_map (client_line c) tries)) k
     ∙ ap (λ t. from ++ t) (sym (one_more 1 i all tries h))
     ∙ ap (λ c. from ++ client_lines 1 (take c all)) (sym (add-one i))
-
--- four texts, each with a number behind it, and what ends the line
-pub four_fields : (from a b c d to text number text' number' text'' number'' text''' number''' end : Bytes)
-    → a ≡ from ++ text ++ number → b ≡ a ++ text' ++ number' → c ≡ b ++ text'' ++ number'' → d ≡ c ++ text''' ++ number'''
-    → to ≡ d ++ end → to ≡ from ++ (text ++ (number ++ (text' ++ (number' ++ (text'' ++ (number'' ++ (text''' ++ (number''' ++ end))))))))
-four_fields from a b c d to text number text' number' text'' number'' text''' number''' end p q r s t =
-    t ∙ ap (λ x. x ++ end) (s ∙ ap (λ x. x ++ text''' ++ number''') (r ∙ ap (λ x. x ++ text'' ++ number'') (q ∙ ap (λ x. x ++ text' ++ number') p))) ∙ simp append_assoc

@@ -1,1 +1,3 @@
 mod Clients
+mod Plain
+mod Tails

@@ -1,13 +1,14 @@
 //! What events are answered, each as the last words of a line.
 
-ghost use Rattle.std.specs.Prelude.{◌≡◌, [], ◌∷◌, ◌++◌, codes, OnOk};
+ghost use Rattle.std.specs.Prelude.{◌≡◌, ◌≤◌, [], ◌∷◌, ◌++◌, codes, length, IfSome, OnOk};
 ghost use Rattle.fb_bytes.specs.Words.{printed};
 ghost use Rattle.report_text.specs.Lines.{behind};
 ghost use Rattle.report_text.specs.Jobs as spec;
 ghost use Rattle.report_text.specs.Events.{refusal_words, status_word, answer_words, step_fault_words, reply_words};
 
 use crate::jobs::state_word;
-use crate::outcomes::put_end;
+use crate::outcomes::{end_of, put_end};
+use crate::tail::Tail;
 use crate::words::{put, put_bytes, put_last};
 use cluster_core::{Answer, JobState, Refusal, StepFault};
 use fb_bytes::{Blob, Text};
@@ -24,6 +25,18 @@ pub fn put_reply(
     match answer {
         Ok(answer) => put_answer(alloc, out, answer),
         Err(fault) => put_step_fault(out, *fault),
+    }
+}
+
+/// The reply to a client's step, where it is no more than the end of a line.
+pub fn short_reply(answer: &Result<Answer, StepFault>) -> Option<Tail>
+    ensures words { IfSome result (λ tail. tail ≡ behind (reply_words answer.now)) }
+    ensures len { IfSome result (λ tail. length tail ≤ 41) }
+{
+    match answer {
+        Ok(Answer::Read { version }) => Some(Tail::last(b" read ", *version)),
+        Ok(Answer::Outcome(outcome)) => Some(end_of(outcome.end)),
+        _ => None,
     }
 }
 

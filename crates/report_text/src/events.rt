@@ -1,13 +1,14 @@
 //! The lines of a schedule's events.
 
-ghost use Rattle.std.specs.Prelude.{◌≡◌, ◌∷◌, ◌++◌, codes, decimal, OnOk};
+ghost use Rattle.std.specs.Prelude.{◌≡◌, ◌≤◌, ◌∷◌, ◌++◌, codes, decimal, length, OnOk};
 ghost use Rattle.std.specs.List.{flat_map};
 ghost use Rattle.report_text.specs.Lines.{behind, line};
 ghost use Rattle.workload_text.specs.Kinds.{command_word};
 ghost use Rattle.report_text.specs.Events.{command_words, reply_words, event_line};
 
 use crate::EventLine;
-use crate::answers::put_reply;
+use crate::answers::{put_reply, short_reply};
+use crate::tail::Tail;
 use crate::words::{put, put_field};
 use cluster_core::{Answer, StepFault};
 use fb_bytes::Blob;
@@ -41,11 +42,30 @@ fn put_turn(
     client: u32,
     answer: &Result<Answer, StepFault>,
 ) -> Result<(), AllocError>
+    requires { length word.now ≤ 20 }
     ensures { OnOk result (out.new ≡ out.old ++ word.now ++ decimal client
         ++ behind (codes "->" ∷ reply_words answer.now)) }
 {
-    put_field(out, word, client)?;
-    put_answered(alloc, out, answer)
+    match short_reply(answer) {
+        Some(tail) => put_short(out, word, client, tail),
+        None => {
+            put_field(out, word, client)?;
+            put_answered(alloc, out, answer)
+        }
+    }
+}
+
+/// The line of a client's step, from its word on.
+fn put_short(out: &mut Blob, word: &[u8], client: u32, reply: Tail) -> Result<(), AllocError>
+    requires word { length word.now ≤ 20 }
+    requires reply { length reply ≤ 41 }
+    ensures { OnOk result (out.new ≡ out.old ++ word.now ++ decimal client ++ codes " ->" ++ reply) }
+{
+    let mut tail = reply;
+    tail.text(b" ->");
+    tail.number(u64::from(client));
+    tail.text(word);
+    put(out, tail.as_slice())
 }
 
 fn put_step(

@@ -10,6 +10,7 @@ mod outcomes;
 mod printing;
 mod report;
 mod restored;
+mod tail;
 #[cfg(test)]
 mod tests;
 mod words;
