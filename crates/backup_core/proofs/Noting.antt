@@ -61,4 +61,4 @@ noting_law = record {
 }
 
 pub undo_law : UndoLaw
-undo_law job piece now file = ap (λ (ns : List Noted). record job { map = record job.map { noted = ns } }) (take_back_law (record { piece = piece; file = file }) job.map.noted)
+undo_law job piece now file = ap (λ (ns : List Noted). record job { noted = ns }) (take_back_law (record { piece = piece; file = file }) job.noted)

@@ -1,2 +1,2 @@
-pub mod Hand
+pub mod Backups
 pub mod Manifests

@@ -5,7 +5,7 @@ use Rattle.fb_bytes.specs.Bytes.{Bytes}
 use Rattle.fb_bytes.specs.declared.KeyRange.{KeyRange}
 use Rattle.fb_bytes.specs.declared.Pair.{Pair}
 use Rattle.fb_bytes.specs.Keys.{is_backwards, in_ranges, AreSeparate}
-use Rattle.backup_core.specs.Hand.{BackupJob, dumped, taken_back}
+use Rattle.backup_core.specs.Backups.{BackupJob, dumped, taken_back}
 use Rattle.snapshot_plan.specs.declared.Done.{Done}
 use Rattle.snapshot_plan.specs.declared.Noted.{Noted}
 use Rattle.snapshot_plan.specs.Listing.{noted_names, IsNew, AreDistinct, HaveRangeNames}

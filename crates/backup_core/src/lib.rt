@@ -1,11 +1,13 @@
-//! Hand jobs: backups whose dumps, cuts and seals are called one by one.
+//! Backups: what each keeps between its calls, and when what it puts is honest.
 #![tactic(auto)]
 
-mod hand;
+mod backup;
 mod laws;
+mod mode;
 
-pub use hand::BackupJob;
+pub use backup::BackupJob;
 pub use laws::{honest_manifest_law, noting_law, tiling_law, undo_law};
+pub use mode::Mode;
 
 #[cfg(test)]
 mod tests;

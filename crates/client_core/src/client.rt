@@ -41,11 +41,13 @@ impl Client {
         ensures { IfOk result (λ client. client ≡ new_client script.now) }
     {
         let script = script.copy()?;
+        // Each transaction has one try at least.
+        let outcomes = Seq::from_vec(Vec::with_capacity(alloc, script.txns.len())?);
         Ok(Client {
             script,
             place: 0,
             begun: None,
-            outcomes: Seq::new(alloc),
+            outcomes,
         })
     }
 

@@ -11,27 +11,34 @@ use Rattle.workload_text.specs.declared.Workload.{Workload}
 use Rattle.cluster_core.specs.declared.event.Answer.{Answer}
 use Rattle.cluster_core.specs.declared.event.Event.{Event}
 use Rattle.cluster_core.specs.declared.event.StepFault.{StepFault}
-use Rattle.cluster_core.specs.Jobs.{Job}
+use Rattle.cluster_core.specs.declared.job.Job.TheVariants as types
+use Rattle.cluster_core.specs.Backups.{Backup}
+use Rattle.cluster_core.specs.Jobs.{Job, Terms, terms_of, started}
+use Rattle.cluster_core.proofs.Started.{started_backup}
 use Rattle.cluster_core.specs.State.{State, with_put}
 use Rattle.cluster_core.specs.Step.{Step, Turn, Run}
 use Rattle.cluster_core.specs.Footprints.{IsJobChanged, IsJobStarted, IsFilePut, Footprint}
-use Rattle.cluster_core.specs.Elsewhere.{told_of, IsOutside, KeepsElsewhere, ElsewhereLaw}
+use Rattle.cluster_core.specs.Elsewhere.{told_of, IsApart, IsOutside, KeepsElsewhere, ElsewhereLaw}
 use Rattle.cluster_core.proofs.Footprints.{step_touches}
 
 -- ---- lists of jobs
 
-at_place : (jobs : List Job) (place : ℕ) (job : Job) (name : Bytes) → slice_get jobs place ≡ Some job → IsOutside jobs name → name_in job.container name ≡ None
-at_place [] zero job name e o = cc
-at_place [] (suc n) job name e o = cc
-at_place (x ∷ xs) zero job name e o = let same : x ≡ job = cc in subst (λ (y : Job). name_in y.container name ≡ None) same o.0
-at_place (x ∷ xs) (suc n) job name e o = at_place xs n job name e o.1
+-- a name outside every started container is outside a backup's
+apart_from : (backup : Backup) (name : Bytes) → IsApart name (started (terms_of (types.Backup backup))) → name_in backup.container name ≡ None
+apart_from backup name o = subst (IsApart name) (started_backup backup) o
 
-before_set : (jobs : List Job) (place : ℕ) (old new : Job) (name : Bytes) → slice_get jobs place ≡ Some old → new.container ≡ old.container → IsOutside (slice_set jobs place new) name → IsOutside jobs name
+at_place : (jobs : List Job) (place : ℕ) (backup : Backup) (name : Bytes) → slice_get jobs place ≡ Some (types.Backup backup) → IsOutside jobs name → name_in backup.container name ≡ None
+at_place [] zero backup name e o = cc
+at_place [] (suc n) backup name e o = cc
+at_place (x ∷ xs) zero backup name e o = let same : x ≡ types.Backup backup = cc in apart_from backup name (subst (λ (y : Job). IsApart name (started (terms_of y))) same o.0)
+at_place (x ∷ xs) (suc n) backup name e o = at_place xs n backup name e o.1
+
+before_set : (jobs : List Job) (place : ℕ) (old new : Job) (name : Bytes) → slice_get jobs place ≡ Some old → terms_of new ≡ terms_of old → IsOutside (slice_set jobs place new) name → IsOutside jobs name
 before_set [] zero old new name e c o = cc
 before_set [] (suc n) old new name e c o = cc
 before_set (x ∷ xs) zero old new name e c o =
     let same : x ≡ old = cc in
-    (ap (λ (y : Job). name_in y.container name) same ∙ ap (λ (z : Bytes). name_in z name) (sym c) ∙ o.0, o.1)
+    (subst (λ (t : Terms). IsApart name (started t)) (c ∙ ap terms_of (sym same)) o.0, o.1)
 before_set (x ∷ xs) (suc n) old new name e c o = (o.0, before_set xs n old new name e c o.1)
 
 before_more : (jobs : List Job) (new : Job) (name : Bytes) → IsOutside (jobs ++ new ∷ []) name → IsOutside jobs name
@@ -63,16 +70,16 @@ put_telling whole bytes (Some files) = refl
 
 outside_before : (name : Bytes) (old new : List Job) → (new ≡ old) ⊎ (IsJobChanged old new ⊎ IsJobStarted old new) → IsOutside new name → IsOutside old name
 outside_before name old new (inl same) o = subst (λ (js : List Job). IsOutside js name) same o
-outside_before name old new (inr (inl c)) o = before_set old c.place c.before c.after name c.found c.container (subst (λ (js : List Job). IsOutside js name) c.is o)
+outside_before name old new (inr (inl c)) o = before_set old c.place c.before c.after name c.found c.terms (subst (λ (js : List Job). IsOutside js name) c.is o)
 outside_before name old new (inr (inr c)) o = before_more old c.job name (subst (λ (js : List Job). IsOutside js name) c.is o)
 
 same_told : (name : Bytes) (jobs : List Job) (old new : Option (List File)) → (new ≡ old) ⊎ IsFilePut jobs old new → IsOutside jobs name → told_of new name ≡ told_of old name
 same_told name jobs old new (inl same) o = ap (λ (fs : Option (List File)). told_of fs name) same
-same_told name jobs old new (inr p) o = ap (λ (fs : Option (List File)). told_of fs name) p.is ∙ put_told p.job.container p.name p.bytes name old (at_place jobs p.place p.job name p.found o)
+same_told name jobs old new (inr p) o = ap (λ (fs : Option (List File)). told_of fs name) p.is ∙ put_told p.backup.container p.name p.bytes name old (at_place jobs p.place p.backup name p.found o)
 
 telling_still : (jobs : List Job) (old new : Option (List File)) → (new ≡ old) ⊎ IsFilePut jobs old new → is_some new ≡ is_some old
 telling_still jobs old new (inl same) = ap is_some same
-telling_still jobs old new (inr p) = ap is_some p.is ∙ put_telling (whole_name p.job.container p.name) p.bytes old
+telling_still jobs old new (inr p) = ap is_some p.is ∙ put_telling (whole_name p.backup.container p.name) p.bytes old
 
 step_kept : (p : Workload) (old new : State) (event : Event) (answer : Result Answer StepFault) → Step p old event answer new → KeepsElsewhere old new
 step_kept p old new event answer s =

@@ -1,22 +1,30 @@
 -- A change in parts is the whole change, and one that is taken back leaves the jobs as they were.
 use Rattle.std.proofs.Common.{◌≡◌, ℕ, zero, suc, List, [], ◌∷◌, Some, slice_set, refl, sym, ap, ◌∙◌}
 use Rattle.std.specs.Prelude.{slice_get}
-use Rattle.backup_core.specs.Hand.{BackupJob}
+use Rattle.backup_core.specs.Backups.{BackupJob}
 use Rattle.backup_core.proofs.Noting.{undo_law}
 use Rattle.cluster_core.specs.declared.change.Change.{Change}
 use Rattle.cluster_core.specs.declared.change.Change.TheVariants.{Dump, Cut, Seal}
+use Rattle.cluster_core.specs.declared.job.Job.TheVariants as types
+use Rattle.cluster_core.specs.Backups.{Backup}
 use Rattle.cluster_core.specs.Jobs.{Job}
-use Rattle.cluster_core.specs.inner.Filed.{changed, ahead, settled, taken_back, IsAhead}
+use Rattle.cluster_core.specs.inner.Filed.{changed, changed_backup, ahead, backup_ahead, settled, settled_backup, taken_back, backup_back, snapshot_of, IsAhead}
+
+whole_backup : (change : Change) (b : Backup) → settled_backup change (backup_ahead change b) ≡ changed_backup change b
+whole_backup (Dump piece now file) b = refl
+whole_backup (Cut now) b = refl
+whole_backup Seal b = refl
 
 whole : (change : Change) (job : Job) → settled change (ahead change job) ≡ changed change job
-whole (Dump piece now file) job = refl
-whole (Cut now) job = refl
-whole Seal job = refl
+whole change (types.Backup b) = ap (λ (x : Backup). types.Backup x) (whole_backup change b)
 
-undone : (change : Change) (job : Job) → taken_back change job.hand.snapshot (ahead change job) ≡ job
-undone (Dump piece now file) job = ap (λ (h : BackupJob). record job { hand = h }) (undo_law job.hand piece now file)
-undone (Cut now) job = refl
-undone Seal job = refl
+undone_backup : (change : Change) (b : Backup) → backup_back change b.job.snapshot (backup_ahead change b) ≡ b
+undone_backup (Dump piece now file) b = ap (λ (j : BackupJob). record b { job = j }) (undo_law b.job piece now file)
+undone_backup (Cut now) b = refl
+undone_backup Seal b = refl
+
+undone : (change : Change) (job : Job) → taken_back change (snapshot_of job) (ahead change job) ≡ job
+undone change (types.Backup b) = ap (λ (x : Backup). types.Backup x) (undone_backup change b)
 
 set_there : (jobs : List Job) (place : ℕ) (old new : Job) → slice_get jobs place ≡ Some old → slice_get (slice_set jobs place new) place ≡ Some new
 set_there [] place old new e = absurd cc

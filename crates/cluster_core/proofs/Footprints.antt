@@ -10,7 +10,7 @@ use Rattle.client_core.specs.Clients.{begun_client}
 use Rattle.cluster_core.specs.declared.event.Event.{Event}
 use Rattle.cluster_core.specs.declared.event.Event.TheVariants as events
 use Rattle.cluster_core.specs.declared.event.StepFault.TheVariants.{NoMemory}
-use Rattle.cluster_core.specs.Jobs.{newest}
+use Rattle.cluster_core.specs.Jobs.{newest, on_backup}
 use Rattle.cluster_core.specs.State.{State, client_at}
 use Rattle.cluster_core.specs.Moves.{Luck, is_starved, Moved, moved}
 use Rattle.cluster_core.specs.commands.Dump.{dump_piece}
@@ -25,16 +25,16 @@ use Rattle.cluster_core.proofs.commands.Dump.{dump_touches}
 use Rattle.cluster_core.proofs.commands.Cut.{cut_touches}
 use Rattle.cluster_core.proofs.commands.Seal.{seal_touches}
 use Rattle.cluster_core.proofs.commands.Abort.{abort_touches}
-use Rattle.cluster_core.proofs.commands.Jobs.{job_touches}
+use Rattle.cluster_core.proofs.commands.Jobs.{job_touches, backup_touches}
 use Rattle.cluster_core.proofs.commands.Open.{open_touches}
 use Rattle.cluster_core.proofs.events.Begin.{begin_touches}
 use Rattle.cluster_core.proofs.events.Commit.{commit_touches}
 
 command_touches : (s : Settings) (w : State) (luck : Luck) (command : Command) → Touches s.pace w (command_gives s w luck command)
 command_touches s w luck (commands.Open tag side container ranges) = open_touches s w tag side container ranges luck
-command_touches s w luck (commands.Dump tag piece) = job_touches s.pace w tag (dump_piece s w piece luck) (newest tag w.jobs) refl (λ found at. dump_touches s w found piece luck _ _ at)
-command_touches s w luck (commands.Cut tag) = job_touches s.pace w tag (cut_log s w luck) (newest tag w.jobs) refl (λ found at. cut_touches s w found luck at)
-command_touches s w luck (commands.Seal tag) = job_touches s.pace w tag (seal_job w luck) (newest tag w.jobs) refl (λ found at. seal_touches s.pace w found luck _ at)
+command_touches s w luck (commands.Dump tag piece) = job_touches s.pace w tag (on_backup (dump_piece s w piece luck)) (newest tag w.jobs) refl (λ found at. backup_touches s.pace w (dump_piece s w piece luck) found at (λ x a. dump_touches s w x piece luck _ _ a))
+command_touches s w luck (commands.Cut tag) = job_touches s.pace w tag (on_backup (cut_log s w luck)) (newest tag w.jobs) refl (λ found at. backup_touches s.pace w (cut_log s w luck) found at (λ x a. cut_touches s w x luck a))
+command_touches s w luck (commands.Seal tag) = job_touches s.pace w tag (on_backup (seal_job w luck)) (newest tag w.jobs) refl (λ found at. backup_touches s.pace w (seal_job w luck) found at (λ x a. seal_touches s.pace w x luck _ a))
 command_touches s w luck (commands.Abort tag) = job_touches s.pace w tag (abort_job w) (newest tag w.jobs) refl (λ found at. abort_touches s.pace w found at)
 command_touches s w luck (commands.Status tag) = gone s.pace w _
 

@@ -11,15 +11,17 @@ use Rattle.container_view.specs.Files.{whole_name}
 use Rattle.container_view.specs.Honest.{IsHonestFile, listed_by}
 use Rattle.workload_text.specs.declared.Workload.{Workload}
 use Rattle.database.specs.Commits.{most_version}
-use Rattle.backup_core.specs.Hand.{BackupJob}
-use Rattle.cluster_core.specs.Jobs.{Job}
+use Rattle.backup_core.specs.Backups.{Terms, BackupJob}
+use Rattle.cluster_core.specs.Jobs.{Job, terms_of}
+use Rattle.cluster_core.specs.declared.job.Job.TheVariants as types
+use Rattle.cluster_core.specs.Backups.{Backup}
 use Rattle.cluster_core.specs.State.{State, history_on, with_job, with_put}
 use Rattle.cluster_core.specs.commands.Shared.{gone_on}
-use Rattle.cluster_core.specs.Sound.{IsDrawn, IsJobSound, IsStored, AreApart, AreContainersSound, Sound, view_of, source_of}
-use Rattle.cluster_core.proofs.Lists.{same_or_other}
+use Rattle.cluster_core.specs.Sound.{IsDrawn, BackupSound, IsStored, JobSound, JobStored, AreApart, AreContainersSound, Sound, view_of, source_of}
+use Rattle.cluster_core.proofs.Lists.{get_set_same, get_set_other, same_or_other}
 use Rattle.cluster_core.proofs.All.{each_set}
 use Rattle.cluster_core.proofs.Known.{Known}
-use Rattle.cluster_core.proofs.Grown.{job_grown, stored_grown, waits}
+use Rattle.cluster_core.proofs.Grown.{each_sound, each_kept, job_grown, stored_grown, waits}
 use Rattle.cluster_core.proofs.Puts.{IsFresh, stored_put, stored_elsewhere}
 
 -- ---- the operator goes on
@@ -35,12 +37,13 @@ sound_drawn k p w d h = record {
   databases = h.databases;
   clients = h.clients;
   jobs = record {
-    each = λ place job e. let j = h.jobs.each place job e in job_grown p.settings.block w.time w.time w.tickets (w.tickets + 1) (history_on job.side w) (history_on job.side w) job (same w.time) (more w.tickets) j.logged j;
+    each = each_sound p.settings.block w.time (w.tickets + 1) w.src w.dst w.jobs (λ place job e. let j = h.jobs.each place (types.Backup job) e in job_grown p.settings.block w.time w.time w.tickets (w.tickets + 1) (history_on job.side w) (history_on job.side w) job (same w.time) (more w.tickets) j.logged j);
     apart = h.jobs.apart;
+    numbered = h.jobs.numbered;
   };
   containers = λ files e.
       let s = h.containers files e in
-      record { ordered = s.ordered; each = λ place job at. stored_grown k p.settings.block w.time w.time w.tickets (w.tickets + 1) (history_on job.side w) (history_on job.side w) files job (waits p.settings.block w.time w.time (history_on job.side w) job (same w.time)) (more w.tickets) (s.each place job at) };
+      record { ordered = s.ordered; each = each_kept p.settings.block w.time (w.tickets + 1) w.src w.dst files w.jobs (λ place job at. stored_grown k p.settings.block w.time w.time w.tickets (w.tickets + 1) (history_on job.side w) (history_on job.side w) files job (waits p.settings.block w.time w.time (history_on job.side w) job (same w.time)) (more w.tickets) (s.each place (types.Backup job) at)) };
 }
   where
     same : (n : ℕ) → n ≤ n
@@ -52,7 +55,7 @@ sound_drawn k p w d h = record {
 -- ---- a file is put
 
 -- what a put into a job's container owes
-pub record IsGood (p : Workload) (w : State) (job : Job) (name bytes : Bytes) (files : List File) : Type 0 where
+pub record IsGood (p : Workload) (w : State) (job : Backup) (name bytes : Bytes) (files : List File) : Type 0 where
   pub honest : (st : IsStored p.settings.block w.time w.tickets (history_on job.side w) files job) → IsHonestFile file_grammars (source_of p.settings.block w.time (history_on job.side w) job) st.honest.folder name bytes (name_of name)
   pub lists : (names : List Bytes) → listed_by file_grammars (name_of name) bytes ≡ Some names → AllByRecursion (IsDrawn w.tickets) names
 
@@ -63,18 +66,18 @@ file_put whole bytes (Some before) files e = (before, refl, some_is (with_file b
     some_is : (a b : List File) → Some a ≡ Some b → a ≡ b
     some_is a b q = cc
 
-stored_each : (k : Known) (p : Workload) (w : State) (place : ℕ) (job : Job) (name bytes : Bytes) (files : List File) → Sound p w → slice_get w.jobs place ≡ Some job → IsFresh w.tickets name → AreContainersSound (view_of p.settings.block w) files → IsGood p w job name bytes files → (m : ℕ) (x : Job) → slice_get w.jobs m ≡ Some x → IsStored p.settings.block w.time w.tickets (history_on x.side w) (with_file files (whole_name job.container name) bytes) x
+stored_each : (k : Known) (p : Workload) (w : State) (place : ℕ) (job : Backup) (name bytes : Bytes) (files : List File) → Sound p w → slice_get w.jobs place ≡ Some (types.Backup job) → IsFresh w.tickets name → AreContainersSound (view_of p.settings.block w) files → IsGood p w job name bytes files → (m : ℕ) (x : Backup) → slice_get w.jobs m ≡ Some (types.Backup x) → IsStored p.settings.block w.time w.tickets (history_on x.side w) (with_file files (whole_name job.container name) bytes) x
 stored_each k p w place job name bytes files h at fresh s good m x e =
     elim (same_or_other place m) [
       | inl i ↦
           let same : job ≡ x = some_is job x (sym at ∙ ap (slice_get w.jobs) i ∙ e) in
-          let st = s.each place job at in
-          subst (λ (y : Job). IsStored p.settings.block w.time w.tickets (history_on y.side w) (with_file files (whole_name job.container name) bytes) y) same
-          (stored_put k p.settings.block w.time w.tickets (history_on job.side w) files job name bytes s.ordered fresh (h.jobs.each place job at).noted st (good.honest st) good.lists)
-      | inr d ↦ stored_elsewhere k p.settings.block w.time w.tickets (history_on x.side w) files x (whole_name job.container name) bytes (k.files.apart job.container x.container name (h.jobs.each place job at).named (h.jobs.each m x e).named (not_same job.container x.container (λ t. d (h.jobs.apart place m job x at e t)))) (s.each m x e)
+          let st = s.each place (types.Backup job) at in
+          subst (λ (y : Backup). IsStored p.settings.block w.time w.tickets (history_on y.side w) (with_file files (whole_name job.container name) bytes) y) same
+          (stored_put k p.settings.block w.time w.tickets (history_on job.side w) files job name bytes s.ordered fresh (h.jobs.each place (types.Backup job) at).noted st (good.honest st) good.lists)
+      | inr d ↦ stored_elsewhere k p.settings.block w.time w.tickets (history_on x.side w) files x (whole_name job.container name) bytes (k.files.apart job.container x.container name (h.jobs.each place (types.Backup job) at).named (h.jobs.each m (types.Backup x) e).named (not_same job.container x.container (λ t. d (h.jobs.apart place m job x at e t)))) (s.each m (types.Backup x) e)
     ]
   where
-    some_is : (a b : Job) → Some a ≡ Some b → a ≡ b
+    some_is : (a b : Backup) → Some (types.Backup a) ≡ Some (types.Backup b) → a ≡ b
     some_is a b q = cc
 
     not_same : (a b : Bytes) → (is_same a b ≡ true → ⊥) → is_same a b ≡ false
@@ -84,7 +87,7 @@ stored_each k p w place job name bytes files h at fresh s good m x e =
         go true q = absurd (f q)
         go false q = q
 
-pub sound_filed : (k : Known) (p : Workload) (w : State) (place : ℕ) (job : Job) (name bytes : Bytes) → Sound p w → slice_get w.jobs place ≡ Some job → IsFresh w.tickets name → ((files : List File) → w.files ≡ Some files → IsGood p w job name bytes files) → Sound p (record w { files = with_put (whole_name job.container name) bytes w.files })
+pub sound_filed : (k : Known) (p : Workload) (w : State) (place : ℕ) (job : Backup) (name bytes : Bytes) → Sound p w → slice_get w.jobs place ≡ Some (types.Backup job) → IsFresh w.tickets name → ((files : List File) → w.files ≡ Some files → IsGood p w job name bytes files) → Sound p (record w { files = with_put (whole_name job.container name) bytes w.files })
 sound_filed k p w place job name bytes h at fresh good = record {
   clock = h.clock;
   databases = h.databases;
@@ -94,7 +97,7 @@ sound_filed k p w place job name bytes h at fresh good = record {
       let b = file_put (whole_name job.container name) bytes w.files files e in
       let s = h.containers b.0 b.1 in
       subst (λ (fs : List File). AreContainersSound (view_of p.settings.block w) fs) b.2
-      (record { ordered = k.files.ordered b.0 (whole_name job.container name) bytes s.ordered; each = stored_each k p w place job name bytes b.0 h at fresh s (good b.0 b.1) });
+      (record { ordered = k.files.ordered b.0 (whole_name job.container name) bytes s.ordered; each = each_kept p.settings.block w.time w.tickets w.src w.dst (with_file b.0 (whole_name job.container name) bytes) w.jobs (stored_each k p w place job name bytes b.0 h at fresh s (good b.0 b.1)) });
 }
 
 -- the file is there then
@@ -105,24 +108,37 @@ put_there k whole bytes o files e =
 
 -- ---- a job changes
 
--- two jobs at one place, before and after, have one container
-apart_set : (jobs : List Job) (place : ℕ) (old new : Job) → slice_get jobs place ≡ Some old → new.container ≡ old.container → AreApart jobs → AreApart (slice_set jobs place new)
-apart_set jobs place old new at c h a b first second e f =
-    each_set (λ m x. is_same x.container second.container ≡ true → m ≡ b) jobs place old new at
-    (λ s. each_set (λ n y. is_same new.container y.container ≡ true → place ≡ n) jobs place old new at (λ t. refl) (λ n y d g t. h place n old y at g (ap (λ (z : Bytes). is_same z y.container) (sym c) ∙ t)) b second f s)
-    (λ m x d g s. each_set (λ n y. is_same x.container y.container ≡ true → m ≡ n) jobs place old new at (λ t. h m place x old g at (ap (λ (z : Bytes). is_same x.container z) (sym c) ∙ t)) (λ n y d' g' t. h m n x y g g' t) b second f s)
-    a first e
+-- the backups before a change of one that keeps its container
+before_set : (jobs : List Job) (place : ℕ) (old new : Backup) → slice_get jobs place ≡ Some (types.Backup old) → new.container ≡ old.container → (m : ℕ) (x : Backup) → slice_get (slice_set jobs place (types.Backup new)) m ≡ Some (types.Backup x) → (y : Backup) × (slice_get jobs m ≡ Some (types.Backup y)) × (x.container ≡ y.container)
+before_set jobs place old new at c m x e =
+    elim (same_or_other place m) [
+      | inl i ↦
+          let here : slice_get (slice_set jobs place (types.Backup new)) m ≡ Some (types.Backup new) = subst (λ (n : ℕ). slice_get (slice_set jobs place (types.Backup new)) n ≡ Some (types.Backup new)) i (get_set_same jobs place (types.Backup old) (types.Backup new) at) in
+          (old, subst (λ (n : ℕ). slice_get jobs n ≡ Some (types.Backup old)) i at, ap (λ (y : Backup). y.container) (backup_is x new (sym e ∙ here)) ∙ c)
+      | inr d ↦ (x, sym (get_set_other jobs place m (types.Backup new) d) ∙ e, refl)
+    ]
+  where
+    backup_is : (a b : Backup) → Some (types.Backup a) ≡ Some (types.Backup b) → a ≡ b
+    backup_is a b q = cc
 
-pub sound_changed : (p : Workload) (w : State) (place : ℕ) (old : Job) (hand : BackupJob) → Sound p w → slice_get w.jobs place ≡ Some old → IsJobSound p.settings.block w.time w.tickets (history_on old.side w) (record old { hand = hand }) → ((files : List File) → w.files ≡ Some files → IsStored p.settings.block w.time w.tickets (history_on old.side w) files (record old { hand = hand })) → Sound p (with_job place (record old { hand = hand }) w)
-sound_changed p w place old hand h at j s = record {
+-- two backups at one place, before and after, have one container
+apart_set : (jobs : List Job) (place : ℕ) (old new : Backup) → slice_get jobs place ≡ Some (types.Backup old) → new.container ≡ old.container → AreApart jobs → AreApart (slice_set jobs place (types.Backup new))
+apart_set jobs place old new at c h a b first second e f s =
+    let x = before_set jobs place old new at c a first e in
+    let y = before_set jobs place old new at c b second f in
+    h a b x.0 y.0 x.1 y.1 (ap (λ (z : Bytes). is_same z y.0.container) (sym x.2) ∙ ap (is_same first.container) (sym y.2) ∙ s)
+
+pub sound_changed : (p : Workload) (w : State) (place : ℕ) (old : Backup) (hand : BackupJob) → Sound p w → slice_get w.jobs place ≡ Some (types.Backup old) → hand.terms ≡ old.job.terms → BackupSound p.settings.block w.time w.tickets (history_on old.side w) (record old { job = hand }) → ((files : List File) → w.files ≡ Some files → IsStored p.settings.block w.time w.tickets (history_on old.side w) files (record old { job = hand })) → Sound p (with_job place (types.Backup (record old { job = hand })) w)
+sound_changed p w place old hand h at t j s = record {
   clock = h.clock;
   databases = h.databases;
   clients = h.clients;
   jobs = record {
-    each = each_set (λ m x. IsJobSound p.settings.block w.time w.tickets (history_on x.side w) x) w.jobs place old (record old { hand = hand }) at j (λ m x d e. h.jobs.each m x e);
-    apart = apart_set w.jobs place old (record old { hand = hand }) at refl h.jobs.apart;
+    each = each_set (λ m x. JobSound p.settings.block w.time w.tickets w.src w.dst x) w.jobs place (types.Backup old) (types.Backup (record old { job = hand })) at j (λ m x d e. h.jobs.each m x e);
+    apart = apart_set w.jobs place old (record old { job = hand }) at refl h.jobs.apart;
+    numbered = each_set (λ m x. (terms_of x).number ≡ 1 + m) w.jobs place (types.Backup old) (types.Backup (record old { job = hand })) at (ap (λ (x : Terms). x.number) t ∙ h.jobs.numbered place (types.Backup old) at) (λ m x d e. h.jobs.numbered m x e);
   };
   containers = λ files e.
-      let t = h.containers files e in
-      record { ordered = t.ordered; each = each_set (λ m x. IsStored p.settings.block w.time w.tickets (history_on x.side w) files x) w.jobs place old (record old { hand = hand }) at (s files e) (λ m x d f. t.each m x f) };
+      let f = h.containers files e in
+      record { ordered = f.ordered; each = each_set (λ m x. JobStored p.settings.block w.time w.tickets w.src w.dst files x) w.jobs place (types.Backup old) (types.Backup (record old { job = hand })) at (s files e) (λ m x d g. f.each m x g) };
 }

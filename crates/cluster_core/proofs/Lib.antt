@@ -4,6 +4,7 @@ mod Answered
 mod All
 mod Known
 mod Named
+mod Numbering
 mod Grown
 mod Puts
 mod Frames
@@ -15,6 +16,7 @@ mod Worlds
 pub mod LeastKeys
 mod Filings
 pub mod Footprints
+pub mod Started
 mod Touching
 mod plans
 mod commands

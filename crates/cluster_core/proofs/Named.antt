@@ -9,7 +9,7 @@ use Rattle.file_names.specs.declared.Name.TheVariants.{Range, Log, Manifest}
 use Rattle.file_names.specs.Spelling.{spelling, spelled, is_number, range_texts, log_texts, manifest_texts, range_numbers, log_numbers, manifest_numbers}
 use Rattle.file_names.specs.Reading.{name_of}
 use Rattle.database.specs.Commits.{most_version}
-use Rattle.backup_core.specs.Hand.{text_of}
+use Rattle.backup_core.specs.Backups.{text_of}
 use Rattle.cluster_core.proofs.Known.{Known}
 
 -- the name has a spelling

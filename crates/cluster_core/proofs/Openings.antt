@@ -11,6 +11,7 @@ use Rattle.client_core.specs.Clients.{ClientState, new_client}
 use Rattle.client_core.specs.Legal.{entries_by}
 use Rattle.database.specs.Dumps.{AreWithin}
 use Rattle.cluster_core.specs.Jobs.{Job}
+use Rattle.cluster_core.specs.declared.job.Job.TheVariants as types
 use Rattle.cluster_core.specs.State.{on_side, client_at}
 use Rattle.cluster_core.specs.Sound.{IsOrdered, other_side, IsClientSound}
 use Rattle.cluster_core.specs.Laws.{OpeningLaw}
@@ -65,6 +66,6 @@ opening_is_sound workload files ordered = record {
   clock = record { bound = omega arith; tickets = omega arith };
   databases = record { histories = ordered_none; within = within_none workload.settings.block };
   clients = record { scripts_are = scripts_new workload.clients; each = each_new workload };
-  jobs = record { each = λ place job e. no_job place job e; apart = λ a b first second e f s. no_job a first e };
+  jobs = record { each = λ place job e. no_job place job e; apart = λ a b first second e f s. no_job a (types.Backup first) e; numbered = λ place job e. no_job place job e };
   containers = λ told e. record { ordered = ordered told e; each = λ place job f. no_job place job f };
 }

@@ -14,7 +14,7 @@ use Rattle.snapshot_plan.specs.declared.Noted.{Noted}
 use Rattle.container_view.specs.Contents.{file_grammars}
 use Rattle.container_view.specs.Files.{whole_name, name_in}
 use Rattle.container_view.specs.Honest.{IsHonestFile, listed_by, IsUnlisted}
-use Rattle.cluster_core.specs.Jobs.{Job}
+use Rattle.cluster_core.specs.Backups.{Backup}
 use Rattle.cluster_core.specs.Sound.{IsNoted, IsDrawn, IsThere, IsStored, source_of}
 use Rattle.cluster_core.proofs.All.{differ}
 use Rattle.cluster_core.proofs.Known.{Known}
@@ -29,10 +29,10 @@ there_elsewhere k block container whole bytes files none [] h = tt
 there_elsewhere k block container whole bytes files none (n ∷ noted) h =
     (record { bytes = h.0.bytes; file = k.files.put_other files whole bytes (whole_name container n.file.name) (other_whole k container whole n.file.name none) ∙ h.0.file; pairs = h.0.pairs; content = h.0.content }, there_elsewhere k block container whole bytes files none noted h.1)
 
-pub stored_elsewhere : (k : Known) (block now tickets : ℕ) (history : List Entry) (files : List File) (job : Job) (whole bytes : Bytes) → name_in job.container whole ≡ None → IsStored block now tickets history files job → IsStored block now tickets history (with_file files whole bytes) job
+pub stored_elsewhere : (k : Known) (block now tickets : ℕ) (history : List Entry) (files : List File) (job : Backup) (whole bytes : Bytes) → name_in job.container whole ≡ None → IsStored block now tickets history files job → IsStored block now tickets history (with_file files whole bytes) job
 stored_elsewhere k block now tickets history files job whole bytes none h = record {
   honest = k.store.put_elsewhere file_grammars (source_of block now history job) job.container whole bytes files h.honest none;
-  there = there_elsewhere k block job.container whole bytes files none job.hand.map.noted h.there;
+  there = there_elsewhere k block job.container whole bytes files none job.job.noted h.there;
   listed = λ name b names f l. h.listed name b names (sym (k.files.put_other files whole bytes (whole_name job.container name) (other_whole k job.container whole name none)) ∙ f) l;
 }
 
@@ -48,7 +48,7 @@ among P name [] a i = absurd i
 among P name (x ∷ xs) a i = elim i [ inl e ↦ subst P (sym e) a.0 | inr r ↦ among P name xs a.1 r ]
 
 -- no manifest lists it: those that there are list range files with drawn tickets alone
-unlisted : (k : Known) (block now tickets : ℕ) (history : List Entry) (files : List File) (job : Job) (name : Bytes) → IsFresh tickets name → IsStored block now tickets history files job → IsUnlisted file_grammars job.container files name
+unlisted : (k : Known) (block now tickets : ℕ) (history : List Entry) (files : List File) (job : Backup) (name : Bytes) → IsFresh tickets name → IsStored block now tickets history files job → IsUnlisted file_grammars job.container files name
 unlisted k block now tickets history files job name fresh h = record { each = λ m bytes names f l i. let d = among (IsDrawn tickets) name names (h.listed m bytes names f l) i in fresh d.snapshot d.version d.ticket d.block d.read d.drawn }
 
 some_is : (a b : Bytes) → Some a ≡ Some b → a ≡ b
@@ -83,14 +83,14 @@ listed_still k tickets container name bytes files new old m b names f l = go (is
         new names (ap (λ (x : Bytes). listed_by file_grammars (name_of x) bytes) same ∙ ap (listed_by file_grammars (name_of m)) b_is ∙ l)
     go false e = old m b names (sym (k.files.put_other files (whole_name container name) bytes (whole_name container m) (noted_differs k container name m (λ s. not_both (same_both name m s) e))) ∙ f) l
 
-pub stored_put : (k : Known) (block now tickets : ℕ) (history : List Entry) (files : List File) (job : Job) (name bytes : Bytes) → AreFiles files → IsFresh tickets name
-    → AllByRecursion (IsNoted block now tickets) job.hand.map.noted
+pub stored_put : (k : Known) (block now tickets : ℕ) (history : List Entry) (files : List File) (job : Backup) (name bytes : Bytes) → AreFiles files → IsFresh tickets name
+    → AllByRecursion (IsNoted block now tickets) job.job.noted
     → (h : IsStored block now tickets history files job)
     → IsHonestFile file_grammars (source_of block now history job) h.honest.folder name bytes (name_of name)
     → ((names : List Bytes) → listed_by file_grammars (name_of name) bytes ≡ Some names → AllByRecursion (IsDrawn tickets) names)
     → IsStored block now tickets history (with_file files (whole_name job.container name) bytes) job
 stored_put k block now tickets history files job name bytes ordered fresh noted h honest lists = record {
   honest = k.store.place file_grammars (source_of block now history job) job.container (whole_name job.container name) name bytes files h.honest ordered (k.files.whole_in job.container name) (unlisted k block now tickets history files job name fresh h) honest;
-  there = there_still k block now tickets job.container name bytes files fresh job.hand.map.noted noted h.there;
+  there = there_still k block now tickets job.container name bytes files fresh job.job.noted noted h.there;
   listed = listed_still k tickets job.container name bytes files lists h.listed;
 }

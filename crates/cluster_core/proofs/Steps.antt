@@ -10,7 +10,7 @@ use Rattle.cluster_core.specs.declared.event.Event.{Event}
 use Rattle.cluster_core.specs.declared.event.Event.TheVariants.{Begin, Commit}
 use Rattle.cluster_core.specs.declared.event.Event.TheVariants as events
 use Rattle.cluster_core.specs.declared.event.StepFault.TheVariants.{NoMemory}
-use Rattle.cluster_core.specs.Jobs.{newest}
+use Rattle.cluster_core.specs.Jobs.{newest, on_backup}
 use Rattle.cluster_core.specs.State.{State, client_at}
 use Rattle.cluster_core.specs.Moves.{Luck, is_starved, Moved, moved}
 use Rattle.cluster_core.specs.commands.Dump.{dump_piece}
@@ -30,13 +30,13 @@ use Rattle.cluster_core.proofs.commands.Abort.{abort_keeps}
 use Rattle.cluster_core.proofs.commands.Open.{open_keeps}
 use Rattle.cluster_core.proofs.events.Begin.{begin_of_keeps}
 use Rattle.cluster_core.proofs.events.Commit.{commit_keeps}
-use Rattle.cluster_core.proofs.commands.Jobs.{job_keeps}
+use Rattle.cluster_core.proofs.commands.Jobs.{job_keeps, backup_keeps}
 
 command_keeps : (k : Known) (p : Workload) (w : State) (luck : Luck) (command : Command) → IsCommand p.settings.block command → Sound p w → Sound p (command_gives p.settings w luck command).state
 command_keeps k p w luck (commands.Open tag side container ranges) c h = open_keeps k p w tag side container ranges luck h c
-command_keeps k p w luck (commands.Dump tag piece) c h = job_keeps p w tag (dump_piece p.settings w piece luck) (newest tag w.jobs) refl h (λ found at r. dump_keeps k p w piece luck found c.1 h at)
-command_keeps k p w luck (commands.Cut tag) c h = job_keeps p w tag (cut_log p.settings w luck) (newest tag w.jobs) refl h (λ found at r. cut_keeps k p w luck found h at r)
-command_keeps k p w luck (commands.Seal tag) c h = job_keeps p w tag (seal_job w luck) (newest tag w.jobs) refl h (λ found at r. seal_keeps k p w luck found h at)
+command_keeps k p w luck (commands.Dump tag piece) c h = job_keeps p w tag (on_backup (dump_piece p.settings w piece luck)) (newest tag w.jobs) refl h (λ found at r. backup_keeps p w (dump_piece p.settings w piece luck) found at r (λ x a s. dump_keeps k p w piece luck x c.1 h a))
+command_keeps k p w luck (commands.Cut tag) c h = job_keeps p w tag (on_backup (cut_log p.settings w luck)) (newest tag w.jobs) refl h (λ found at r. backup_keeps p w (cut_log p.settings w luck) found at r (λ x a s. cut_keeps k p w luck x h a s))
+command_keeps k p w luck (commands.Seal tag) c h = job_keeps p w tag (on_backup (seal_job w luck)) (newest tag w.jobs) refl h (λ found at r. backup_keeps p w (seal_job w luck) found at r (λ x a s. seal_keeps k p w luck x h a))
 command_keeps k p w luck (commands.Abort tag) c h = job_keeps p w tag (abort_job w) (newest tag w.jobs) refl h (λ found at r. abort_keeps p w found h at)
 command_keeps k p w luck (commands.Status tag) c h = sound_gone p w h
 

@@ -1,5 +1,5 @@
 -- That no step changes a file outside the containers of the jobs.
-use Rattle.std.specs.Prelude.{◌≡◌, List, None, Option, option_map, Result, is_some}
+use Rattle.std.specs.Prelude.{◌≡◌, List, Option, Some, None, option_map, Result, is_some}
 use Rattle.std.specs.List.{AllByRecursion}
 use Rattle.fb_bytes.specs.Bytes.{Bytes}
 use Rattle.fb_outside.specs.Files.{file_of}
@@ -9,7 +9,8 @@ use Rattle.workload_text.specs.declared.Workload.{Workload}
 use Rattle.cluster_core.specs.declared.event.Answer.{Answer}
 use Rattle.cluster_core.specs.declared.event.Event.{Event}
 use Rattle.cluster_core.specs.declared.event.StepFault.{StepFault}
-use Rattle.cluster_core.specs.Jobs.{Job}
+use Rattle.cluster_core.specs.declared.job.Job.{Job}
+use Rattle.cluster_core.specs.Jobs.{terms_of, started}
 use Rattle.cluster_core.specs.State.{State}
 use Rattle.cluster_core.specs.Step.{Step, Turn, Run}
 
@@ -17,9 +18,14 @@ use Rattle.cluster_core.specs.Step.{Step, Turn, Run}
 abbrev pub told_of : Option (List File) → Bytes → Option (Option Bytes)
 told_of files name = option_map (λ (told : List File). file_of told name) files
 
--- the name is in no job's container
+-- the name isn't in this container
+abbrev pub IsApart : Bytes → Option Bytes → Type 0
+IsApart name None = Unit {0}
+IsApart name (Some container) = name_in container name ≡ None
+
+-- the name is in no container that a job started
 abbrev pub IsOutside : List Job → Bytes → Type 0
-IsOutside jobs name = AllByRecursion (λ (job : Job). name_in job.container name ≡ None) jobs
+IsOutside jobs name = AllByRecursion (λ (job : Job). IsApart name (started (terms_of job))) jobs
 
 -- What is kept from one state to a later one: a name outside the containers of the later jobs was
 -- outside before, and its file is as it was. A store that tells its files goes on telling.

@@ -10,7 +10,10 @@ use Rattle.cluster_core.specs.declared.event.Event.{Event}
 use Rattle.cluster_core.specs.declared.event.Answer.{Answer}
 use Rattle.cluster_core.specs.declared.event.StepFault.{StepFault}
 use Rattle.cluster_core.specs.declared.event.StepFault.TheVariants.{NoMemory}
-use Rattle.cluster_core.specs.Jobs.{Job}
+use Rattle.cluster_core.specs.declared.job.Job.{Job}
+use Rattle.cluster_core.specs.declared.job.Job.TheVariants as types
+use Rattle.cluster_core.specs.Backups.{Backup}
+use Rattle.cluster_core.specs.Jobs.{terms_of}
 use Rattle.cluster_core.specs.State.{State, with_put}
 use Rattle.cluster_core.specs.Step.{Step}
 
@@ -20,16 +23,13 @@ pub record IsEntered (time : ℕ) (old new : List Entry) : Type 0 where
   pub newest : entry.version ≡ time
   pub is : new ≡ old ++ entry ∷ []
 
--- A job goes on. What it is a backup of, and where it goes, never changes.
+-- A job goes on. What its command fixed of it never changes.
 pub record IsJobChanged (old new : List Job) : Type 0 where
   pub place : ℕ
   pub before : Job
   pub after : Job
   pub found : slice_get old place ≡ Some before
-  pub tag : after.tag ≡ before.tag
-  pub side : after.side ≡ before.side
-  pub container : after.container ≡ before.container
-  pub ranges : after.hand.map.ranges ≡ before.hand.map.ranges
+  pub terms : terms_of after ≡ terms_of before
   pub is : new ≡ slice_set old place after
 
 -- A job is started.
@@ -37,14 +37,14 @@ pub record IsJobStarted (old new : List Job) : Type 0 where
   pub job : Job
   pub is : new ≡ old ++ job ∷ []
 
--- A file of a job's container is put.
+-- A file of a backup's container is put.
 pub record IsFilePut (jobs : List Job) (old new : Option (List File)) : Type 0 where
   pub place : ℕ
-  pub job : Job
-  pub found : slice_get jobs place ≡ Some job
+  pub backup : Backup
+  pub found : slice_get jobs place ≡ Some (types.Backup backup)
   pub name : Bytes
   pub bytes : Bytes
-  pub is : new ≡ with_put (whole_name job.container name) bytes old
+  pub is : new ≡ with_put (whole_name backup.container name) bytes old
 
 -- What a step may touch, whatever it is answered.
 pub record Footprint (pace : ℕ) (old : State) (answer : Result Answer StepFault) (new : State)

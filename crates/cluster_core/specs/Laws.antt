@@ -8,7 +8,8 @@ use Rattle.workload_text.specs.declared.Workload.{Workload}
 use Rattle.cluster_core.specs.declared.event.Event.{Event}
 use Rattle.cluster_core.specs.declared.event.Answer.{Answer}
 use Rattle.cluster_core.specs.declared.event.StepFault.{StepFault}
-use Rattle.cluster_core.specs.Jobs.{Job}
+use Rattle.cluster_core.specs.declared.job.Job.TheVariants as types
+use Rattle.cluster_core.specs.Backups.{Backup}
 use Rattle.cluster_core.specs.State.{State, history_on, opening}
 use Rattle.cluster_core.specs.Step.{Step, Turn, Run}
 use Rattle.cluster_core.specs.Sound.{Sound, source_of}
@@ -32,12 +33,13 @@ RunLaw =
     (workload : Workload) (old new : State) (turns : List Turn) → Run workload old turns new
     → Sound workload old → Sound workload new
 
--- In a sound state the container of each job is faithful to the history of its database, cut to the
--- job's ranges.
+-- In a sound state the container of each backup is faithful to the history of its database, cut to
+-- the backup's ranges.
 abbrev pub FaithfulLaw : Type 0
 FaithfulLaw =
     (workload : Workload) (state : State) (files : List File) → Sound workload state
-    → state.files ≡ Some files → (place : ℕ) (job : Job) → slice_get state.jobs place ≡ Some job
+    → state.files ≡ Some files → (place : ℕ) (backup : Backup)
+    → slice_get state.jobs place ≡ Some (types.Backup backup)
     → IsFaithfulStore file_grammars
-    (source_of workload.settings.block state.time (history_on job.side state) job)
-    job.container files
+    (source_of workload.settings.block state.time (history_on backup.side state) backup)
+    backup.container files

@@ -1,3 +1,4 @@
+pub mod Backups
 pub mod Jobs
 pub mod State
 pub mod Moves

@@ -5,7 +5,7 @@ use Rattle.workload_text.specs.declared.Settings.{Settings}
 use Rattle.workload_text.specs.declared.Command.{Command}
 use Rattle.workload_text.specs.declared.Command.TheVariants as commands
 use Rattle.cluster_core.specs.declared.event.Answer.TheVariants.{Nothing}
-use Rattle.cluster_core.specs.Jobs.{newest}
+use Rattle.cluster_core.specs.Jobs.{newest, on_backup}
 use Rattle.cluster_core.specs.State as machine
 use Rattle.cluster_core.specs.Moves.{Luck, Moved, moved}
 use Rattle.cluster_core.specs.commands.Abort.{abort_job}
@@ -20,10 +20,11 @@ abbrev pub command_gives : Settings → machine.State → Luck → Command → M
 command_gives settings state luck (commands.Open tag side container ranges) =
     open_job settings state tag side container ranges luck
 command_gives settings state luck (commands.Dump tag piece) =
-    on_job state tag (dump_piece settings state piece luck)
+    on_job state tag (on_backup (dump_piece settings state piece luck))
 command_gives settings state luck (commands.Cut tag) =
-    on_job state tag (cut_log settings state luck)
-command_gives settings state luck (commands.Seal tag) = on_job state tag (seal_job state luck)
+    on_job state tag (on_backup (cut_log settings state luck))
+command_gives settings state luck (commands.Seal tag) =
+    on_job state tag (on_backup (seal_job state luck))
 command_gives settings state luck (commands.Abort tag) = on_job state tag (abort_job state)
 command_gives settings state luck (commands.Status tag) = tell_state state (newest tag state.jobs)
 

@@ -31,7 +31,11 @@ use Rattle.database.specs.Commits.{most_version}
 use Rattle.database.specs.Dumps.{AreWithin}
 use Rattle.client_core.specs.Clients.{ClientState}
 use Rattle.client_core.specs.Legal.{entries_by, IsLegal}
-use Rattle.cluster_core.specs.Jobs.{Job}
+use Rattle.task_kinds.specs.States.{has_ended}
+use Rattle.cluster_core.specs.declared.job.Job.{Job}
+use Rattle.cluster_core.specs.declared.job.Job.TheVariants as types
+use Rattle.cluster_core.specs.Backups.{Backup}
+use Rattle.cluster_core.specs.Jobs.{terms_of}
 use Rattle.cluster_core.specs.State.{State, on_side, client_at}
 
 -- The entries stand in the order of their versions, and none is past the newest version.
@@ -69,28 +73,30 @@ pub record IsNoted (block now tickets : ℕ) (noted : Noted) : Type 0 where
   pub drawn : ticket < tickets
   pub name : name_of noted.file.name ≡ Range snapshot noted.file.version ticket block
 
--- What is kept of a job, over the history of its database.
-pub record IsJobSound (block now tickets : ℕ) (history : List Entry) (job : Job) : Type 0 where
-  pub named : is_container_name job.container ≡ true
-  pub ranges : AreRanges job.hand.map.ranges
-  pub some : 0 < length job.hand.map.ranges
+-- What is kept of a backup, over the history of its database.
+pub record BackupSound (block now tickets : ℕ) (history : List Entry) (backup : Backup)
+    : Type 0 where
+  pub named : is_container_name backup.container ≡ true
+  pub ranges : AreRanges backup.job.terms.ranges
+  pub some : 0 < length backup.job.terms.ranges
   -- the pieces of its snapshot are in order, and in its ranges
-  pub pieces : ArePieces (pieces_of job.hand.map.noted)
-  pub inside : (key : Bytes) → in_ranges (pieces_of job.hand.map.noted) key ≡ true
-      → in_ranges job.hand.map.ranges key ≡ true
+  pub pieces : ArePieces (pieces_of backup.job.noted)
+  pub inside : (key : Bytes) → in_ranges (pieces_of backup.job.noted) key ≡ true
+      → in_ranges backup.job.terms.ranges key ≡ true
   -- each has a file of its own
-  pub noted : AllByRecursion (IsNoted block now tickets) job.hand.map.noted
-  pub distinct : AreDistinct (noted_names job.hand.map.noted)
-  pub snapshot : job.hand.snapshot ≤ now
+  pub noted : AllByRecursion (IsNoted block now tickets) backup.job.noted
+  pub distinct : AreDistinct (noted_names backup.job.noted)
+  pub snapshot : backup.job.snapshot ≤ now
   -- its log goes on from where it was cut
-  pub begun : job.hand.begin ≤ job.hand.next
-  pub next : job.hand.next ≤ now + 1
-  pub logged : job.hand.aborted ≡ false → AreLoggable job.hand.map.ranges job.hand.begin history
+  pub begun : backup.job.begin ≤ backup.job.next
+  pub next : backup.job.next ≤ now + 1
+  pub logged : has_ended backup.job.state ≡ false
+      → AreLoggable backup.job.terms.ranges backup.job.begin history
 
--- what a job's container is a backup of
-abbrev pub source_of : ℕ → ℕ → List Entry → Job → Source
-source_of block now history job =
-    record { history = history; now = now; ranges = job.hand.map.ranges; block = block }
+-- what a backup's container is a backup of
+abbrev pub source_of : ℕ → ℕ → List Entry → Backup → Source
+source_of block now history backup =
+    record { history = history; now = now; ranges = backup.job.terms.ranges; block = block }
 
 -- the file of a noted piece is in the container, and has that piece
 pub record IsThere (block : ℕ) (container : Bytes) (files : List File)
@@ -110,22 +116,30 @@ pub record IsDrawn (tickets : ℕ) (name : Bytes) : Type 0 where
   pub read : name_of name ≡ Range snapshot version ticket block
   pub drawn : ticket < tickets
 
--- What is kept of a job's container, where the store tells its files.
+-- What is kept of a backup's container, where the store tells its files.
 pub record IsStored (block now tickets : ℕ) (history : List Entry) (files : List File)
-    (job : Job) : Type 0 where
-  pub honest : IsHonestStore file_grammars (source_of block now history job) job.container files
-  pub there : AllByRecursion (IsThere block job.container files) job.hand.map.noted
+    (backup : Backup) : Type 0 where
+  pub honest : IsHonestStore file_grammars (source_of block now history backup) backup.container
+      files
+  pub there : AllByRecursion (IsThere block backup.container files) backup.job.noted
   -- manifests list range files with drawn tickets alone
   pub listed : (name bytes : Bytes) (names : List Bytes)
-      → file_of files (whole_name job.container name) ≡ Some bytes
+      → file_of files (whole_name backup.container name) ≡ Some bytes
       → listed_by file_grammars (name_of name) bytes ≡ Some names
       → AllByRecursion (IsDrawn tickets) names
 
--- no two jobs have one container
+-- no two backups write to one container
 abbrev pub AreApart : List Job → Type 0
 AreApart jobs =
-    (a b : ℕ) (first second : Job) → slice_get jobs a ≡ Some first → slice_get jobs b ≡ Some second
+    (a b : ℕ) (first second : Backup) → slice_get jobs a ≡ Some (types.Backup first)
+    → slice_get jobs b ≡ Some (types.Backup second)
     → is_same first.container second.container ≡ true → a ≡ b
+
+-- jobs are numbered in their order, from this number on
+abbrev pub AreNumbered : ℕ → List Job → Type 0
+AreNumbered first jobs =
+    (place : ℕ) (job : Job) → slice_get jobs place ≡ Some job
+    → (terms_of job).number ≡ first + place
 
 -- ---- five parts, each over what it reads of the state
 
@@ -166,20 +180,27 @@ view_of block state =
       jobs = state.jobs;
     }
 
--- the history of the database that a job reads
-abbrev pub read_by : Job → View → List Entry
-read_by job view = on_side job.side view.src view.dst
+-- the facts on a job over the histories of both sides, by its type
+abbrev pub JobSound : ℕ → ℕ → ℕ → List Entry → List Entry → Job → Type 0
+JobSound block now tickets src dst (types.Backup backup) =
+    BackupSound block now tickets (on_side backup.side src dst) backup
 
 pub record AreJobsSound (view : View) : Type 0 where
   pub each : (place : ℕ) (job : Job) → slice_get view.jobs place ≡ Some job
-      → IsJobSound view.block view.now view.tickets (read_by job view) job
+      → JobSound view.block view.now view.tickets view.src view.dst job
   pub apart : AreApart view.jobs
+  pub numbered : AreNumbered 1 view.jobs
+
+-- the facts on a job's container, by its type
+abbrev pub JobStored : ℕ → ℕ → ℕ → List Entry → List Entry → List File → Job → Type 0
+JobStored block now tickets src dst files (types.Backup backup) =
+    IsStored block now tickets (on_side backup.side src dst) files backup
 
 -- What is kept of all containers of jobs, over the files that the store tells.
 pub record AreContainersSound (view : View) (files : List File) : Type 0 where
   pub ordered : AreFiles files
   pub each : (place : ℕ) (job : Job) → slice_get view.jobs place ≡ Some job
-      → IsStored view.block view.now view.tickets (read_by job view) files job
+      → JobStored view.block view.now view.tickets view.src view.dst files job
 
 pub record Sound (workload : Workload) (state : State) : Type 0 where
   pub clock : IsClockSound state.time state.tickets

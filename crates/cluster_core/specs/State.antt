@@ -8,7 +8,7 @@ use Rattle.workload_text.specs.declared.Side.{Side}
 use Rattle.workload_text.specs.declared.Side.TheVariants.{Src, Dst}
 use Rattle.workload_text.specs.declared.Workload.{Workload}
 use Rattle.client_core.specs.Clients.{ClientState, new_client}
-use Rattle.cluster_core.specs.Jobs.{Job}
+use Rattle.cluster_core.specs.declared.job.Job.{Job}
 
 pub record State : Type 0 where
   -- the newest version

@@ -2,7 +2,7 @@
 
 ghost use Rattle.std.specs.Prelude.{◌≡◌, Some, slice_get, slice_set, IfOk, OnErr};
 ghost use Rattle.cluster_core.specs.inner.Filed.{CanChange, IsAhead, settled, taken_back};
-ghost use Rattle.cluster_core.specs.Jobs as spec;
+ghost use Rattle.cluster_core.specs.declared.job.Job as spec;
 
 use crate::Job;
 use fb_bytes::KeyRange;

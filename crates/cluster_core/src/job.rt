@@ -1,110 +1,105 @@
-//! The jobs of a run.
+//! A job, by its type, and how jobs are found.
 
-ghost use Rattle.std.specs.Prelude.{◌≡◌, ℕ, map, length, option_map, IfOk, OnOk, OnErr};
-ghost use Rattle.backup_core.specs.Hand.{aborted_job};
-ghost use Rattle.cluster_core.specs.inner.Filed.{CanChange, ahead, settled, taken_back};
+ghost use Rattle.std.specs.Prelude.{◌≡◌, option_map, IfOk, OnOk, OnErr};
+ghost use Rattle.std.specs.Option.{option_copied};
+ghost use Rattle.cluster_core.specs.inner.Filed.{CanChange, ahead, settled, taken_back, snapshot_of};
+ghost use Rattle.cluster_core.specs.commands.Abort.{with_abort};
 ghost use Rattle.cluster_core.specs.Jobs as spec;
 
-use crate::JobState;
 use crate::change::Change;
-use backup_core::BackupJob;
+use crate::{Backup, JobKind};
+use backup_core::Mode;
 use fb_bytes::{Ranges, Text, is_same};
 use std::alloc::AllocError;
-use std::marker::Model;
+use task_kinds::JobState;
 use workload_text::Side;
 
-/// A job: its tag, the database that it reads, the container that it writes to, and what its kind
-/// keeps.
+/// A job, by its type.
 #[derive(Debug, Drop)]
-pub struct Job {
-    tag: Text,
-    side: Side,
-    container: Text,
-    hand: BackupJob,
-}
-
-impl Model for Job {
-    ghost Value = { spec.Job };
-
-    ghost view = { λ job. record {
-      tag = job.tag;
-      side = job.side;
-      container = job.container;
-      hand = job.hand;
-    } };
+pub enum Job {
+    Backup(Backup),
 }
 
 impl Job {
-    pub(crate) fn new(tag: Text, side: Side, container: Text, hand: BackupJob) -> Self
-        ensures { result ≡ record { tag = tag; side = side; container = container; hand = hand } }
+    /// Its number, counted from 1.
+    pub fn number(&self) -> u64
+        ensures { result ≡ (spec.terms_of self.now).number }
     {
-        Job {
-            tag,
-            side,
-            container,
-            hand,
+        match self {
+            Job::Backup(backup) => backup.job().number(),
         }
     }
 
     pub fn tag(&self) -> &Text
-        ensures { result.now ≡ self.now.tag }
+        ensures { result.now ≡ (spec.terms_of self.now).tag }
     {
-        &self.tag
+        match self {
+            Job::Backup(backup) => backup.tag(),
+        }
+    }
+
+    pub fn kind(&self) -> JobKind
+        ensures { result ≡ (spec.terms_of self.now).kind }
+    {
+        match self {
+            Job::Backup(backup) => kind_of(backup.job().mode()),
+        }
     }
 
     /// The database that it reads.
     pub fn side(&self) -> Side
-        ensures { result ≡ self.now.side }
+        ensures { result ≡ (spec.terms_of self.now).side }
     {
-        self.side
+        match self {
+            Job::Backup(backup) => backup.side(),
+        }
     }
 
-    pub fn container(&self) -> &Text
-        ensures { result.now ≡ self.now.container }
+    /// The container that its command names.
+    pub fn container(&self) -> Option<&Text>
+        ensures { option_copied result ≡ (spec.terms_of self.now).container }
     {
-        &self.container
+        match self {
+            Job::Backup(backup) => Some(backup.container()),
+        }
     }
 
-    pub fn ranges(&self) -> &Ranges
-        ensures { result.now ≡ self.now.hand.map.ranges }
+    /// The ranges that its command names.
+    pub fn ranges(&self) -> Option<&Ranges>
+        ensures { option_copied result ≡ (spec.terms_of self.now).ranges }
     {
-        self.hand.ranges()
+        match self {
+            Job::Backup(backup) => Some(backup.job().ranges()),
+        }
     }
 
     pub fn state(&self) -> JobState
         ensures { result ≡ spec.state_of_job self.now }
     {
-        if self.hand.is_aborted() {
-            JobState::Aborted
-        } else {
-            JobState::Running
+        match self {
+            Job::Backup(backup) => backup.job().state(),
         }
     }
 
-    pub(crate) fn hand(&self) -> &BackupJob
-        ensures { result.now ≡ self.now.hand }
+    // The container that it was started in, where it writes to one.
+    fn started(&self) -> Option<&Text>
+        ensures { option_copied result ≡ spec.started (spec.terms_of self.now) }
     {
-        &self.hand
+        match self.kind() {
+            JobKind::Hand | JobKind::Backup => self.container(),
+            JobKind::Restore | JobKind::Dr => None,
+        }
     }
 
     /// What takes memory of a change is made. It answers the number that the job's snapshot had.
     pub(crate) fn go_ahead(&mut self, change: &Change) -> Result<u64, AllocError>
         requires { CanChange change.now }
-        ensures before { IfOk result (λ snapshot. snapshot ≡ self.old.hand.snapshot) }
+        ensures before { IfOk result (λ snapshot. snapshot ≡ snapshot_of self.old) }
         ensures ok { OnOk result (self.new ≡ ahead change.now self.old) }
         ensures err { OnErr result (self.new ≡ self.old) }
     {
-        let snapshot = self.hand.snapshot();
-        match change {
-            Change::Dump { piece, now, file } => {
-                let piece = piece.copy()?;
-                let file = file.copy()?;
-                match self.hand.dump(piece, *now, file) {
-                    Ok(()) => Ok(snapshot),
-                    Err(_) => Err(AllocError),
-                }
-            }
-            Change::Cut { .. } | Change::Seal => Ok(snapshot),
+        match self {
+            Job::Backup(backup) => backup.go_ahead(change),
         }
     }
 
@@ -113,10 +108,8 @@ impl Job {
         requires { CanChange change.now }
         ensures { self.new ≡ settled change.now self.old }
     {
-        match change {
-            Change::Dump { .. } => {}
-            Change::Cut { now } => self.hand.cut_to(*now),
-            Change::Seal => self.hand.seal(),
+        match self {
+            Job::Backup(backup) => backup.settle(change),
         }
     }
 
@@ -125,53 +118,28 @@ impl Job {
     pub(crate) fn take_back(&mut self, change: &Change, snapshot: u64)
         ensures { self.new ≡ taken_back change.now snapshot self.old }
     {
-        match change {
-            Change::Dump { piece, .. } => self.hand.take_back(piece.begin.as_slice(), snapshot),
-            Change::Cut { .. } | Change::Seal => {}
+        match self {
+            Job::Backup(backup) => backup.take_back(change, snapshot),
         }
     }
 
     /// It takes no memory.
     pub(crate) fn abort(&mut self)
-        ensures { self.new ≡ record self.old { hand = aborted_job self.old.hand } }
+        ensures { self.new ≡ with_abort self.old }
     {
-        self.hand.abort();
+        match self {
+            Job::Backup(backup) => backup.abort(),
+        }
     }
 }
 
-/// The jobs of a run, in the order of their numbers, which count on from 1.
-#[derive(Debug, Drop)]
-pub struct Jobs {
-    jobs: Vec<Job>,
-}
-
-impl Model for Jobs {
-    ghost use Rattle.std.specs.Prelude.{List, map};
-    ghost use Rattle.cluster_core.specs.Jobs.{JobTold, job_told};
-
-    ghost Value = { List JobTold };
-
-    ghost view = { λ j. map job_told j.jobs.items };
-}
-
-impl Jobs {
-    pub(crate) fn from_vec(jobs: Vec<Job>) -> Self
-        ensures { result ≡ map spec.job_told jobs.items }
-    {
-        Jobs { jobs }
-    }
-
-    /// How many jobs there are.
-    pub fn len(&self) -> usize
-        ensures { result ≡ length self.now }
-    {
-        self.jobs.len()
-    }
-
-    pub fn as_slice(&self) -> &[Job]
-        ensures { map spec.job_told result.now ≡ self.now }
-    {
-        &self.jobs
+// What is told of a backup that goes on so.
+fn kind_of(mode: Mode) -> JobKind
+    ensures { result ≡ spec.kind_of mode }
+{
+    match mode {
+        Mode::Hand => JobKind::Hand,
+        Mode::Once | Mode::Continuous => JobKind::Backup,
     }
 }
 
@@ -182,7 +150,7 @@ pub(crate) fn newest(jobs: &[Job], tag: &Text) -> Option<usize>
 {
     let mut found = None;
     'jobs: for (place, job) in jobs.iter().enumerate() {
-        if is_same(job.tag.as_bytes(), tag.as_bytes()) {
+        if is_same(job.tag().as_bytes(), tag.as_bytes()) {
             found = Some(place);
         }
     }
@@ -194,9 +162,19 @@ pub(crate) fn started_in<'a>(jobs: &'a [Job], container: &Text) -> Option<&'a Jo
     ensures { option_map (λ job. job.now) result ≡ spec.started_in container.now jobs.now }
 {
     'jobs: for job in jobs {
-        if is_same(job.container.as_bytes(), container.as_bytes()) {
+        if is_started_in(job, container) {
             return Some(job);
         }
     }
     None
+}
+
+// Whether the job was started in the container.
+fn is_started_in(job: &Job, container: &Text) -> bool
+    ensures { result ≡ spec.is_container container.now (spec.started (spec.terms_of job.now)) }
+{
+    match job.started() {
+        Some(other) => is_same(other.as_bytes(), container.as_bytes()),
+        None => false,
+    }
 }

@@ -29,10 +29,10 @@ pub fn begin_log(
     ensures time { IfOk result (λ version. versions.new ≡ record versions.old { now = version }) }
     ensures src { IfOk result
         (λ version. src.new ≡ spec.logs_more side sides.Src
-        (record { job = number; ranges = ranges.now; begin = version }) src.old) }
+        (record { job = number; ranges = ranges.now; begin = version; erased = version }) src.old) }
     ensures dst { IfOk result
         (λ version. dst.new ≡ spec.logs_more side sides.Dst
-        (record { job = number; ranges = ranges.now; begin = version }) dst.old) }
+        (record { job = number; ranges = ranges.now; begin = version; erased = version }) dst.old) }
     ensures err { OnErr result
         ((src.new ≡ src.old) × (dst.new ≡ dst.old) × (versions.new ≡ versions.old)) }
 {

@@ -19,8 +19,8 @@ use crate::change::{go_ahead, settle, take_back};
 use crate::clients::{begin_client, commit_client, new_clients};
 use crate::logging::{begin_log, end_log};
 use crate::plan::{Filing, Plan};
-use crate::{Answer, Event, Job, Jobs, Refusal, StepFault};
-use backup_core::BackupJob;
+use crate::{Answer, Backup, Event, Job, Jobs, Refusal, StepFault};
+use backup_core::{BackupJob, Mode};
 use block_frame::Profile;
 use client_core::{Client, Outcomes};
 use container_view::{ViewFault, list_names};
@@ -407,9 +407,10 @@ impl<V: Vault> World<V> {
             return Err(StepFault::VersionsSpent { version });
         };
         let count = self.jobs.len();
-        let hand = BackupJob::new(self.alloc, ranges, version)?;
-        let job = Job::new(tag, side, container, hand);
-        let Ok(()) = self.jobs.push(job) else {
+        let number = count as u64 + 1;
+        let job = BackupJob::new(self.alloc, number, Mode::Hand, ranges, version)?;
+        let backup = Backup::new(tag, side, container, job);
+        let Ok(()) = self.jobs.push(Job::Backup(backup)) else {
             return Err(StepFault::NoMemory);
         };
         match begin_log(
@@ -417,7 +418,7 @@ impl<V: Vault> World<V> {
             &mut self.dst,
             &mut self.versions,
             side,
-            count as u64 + 1,
+            number,
             ranges,
         ) {
             Ok(_) => {

@@ -211,7 +211,8 @@ impl Db {
         })
     }
 
-    /// Takes a version, from which on the job logs in these ranges. A fault changes nothing.
+    /// Takes a version, from which on the job logs in these ranges, and keeps what it logs. A fault
+    /// changes nothing.
     pub fn add_log(
         &mut self,
         versions: &mut Versions,
@@ -226,7 +227,8 @@ impl Db {
         ensures log { IfOk result
             (λ version. self.new
             ≡ record self.old {
-              logs = with_log (record { job = job; ranges = ranges.now; begin = version })
+              logs = with_log
+                  (record { job = job; ranges = ranges.now; begin = version; erased = version })
                   self.old.logs;
             }) }
         ensures time { IfOk result
@@ -239,8 +241,13 @@ impl Db {
             });
         };
         let ranges = ranges.copy()?;
-        let begin = version;
-        insert_log(&mut self.logs, JobLog { job, ranges, begin })?;
+        let log = JobLog {
+            job,
+            ranges,
+            begin: version,
+            erased: version,
+        };
+        insert_log(&mut self.logs, log)?;
         versions.now = version;
         Ok(version)
     }

@@ -7,12 +7,14 @@ ghost use Rattle.database.specs.inner.Logs as inner;
 use fb_bytes::Ranges;
 use std::alloc::AllocError;
 
-/// A job that logs: in which ranges, and from which version on.
+/// A job that logs: in which ranges, from which version on, and from which its log is kept.
 #[derive(Debug, Drop)]
 pub struct JobLog {
     pub job: u64,
     pub ranges: Ranges,
     pub begin: u64,
+    /// What it logged before this version is erased.
+    pub erased: u64,
 }
 
 /// The log of a job, where it logs.

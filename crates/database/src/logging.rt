@@ -52,10 +52,11 @@ fn add_batch(
 fn clip_all(alloc: Global, muts: &[Mutation], ranges: &Ranges) -> Result<Seq<Mutation>, AllocError>
     ensures { IfOk result (λ left. left ≡ all_clipped ranges.now muts.now) }
 {
-    let mut left = Vec::new(alloc);
+    let mut left = Vec::with_capacity(alloc, muts.len())?;
     for mutation in muts {
         let mut clipped = clip(alloc, mutation, ranges)?.into_vec();
         left.append(&mut clipped)?;
     }
+    left.shrink_to_fit();
     Ok(Seq::from_vec(left))
 }

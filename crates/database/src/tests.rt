@@ -96,7 +96,7 @@ fn clears(alloc: Global, count: u64) -> Result<TxOps, AllocError> {
     Ok(ops)
 }
 
-/// What a commit of 10,000 clears answers where a job logs in 1,000 long ranges.
+/// What a commit of 250 clears answers where a job logs in 1,000 long ranges.
 fn answer_of_many(
     db: &mut Db,
     versions: &mut Versions,
@@ -104,7 +104,7 @@ fn answer_of_many(
 ) -> Result<Result<Option<u64>, CommitFault>, Fail> {
     let ranges = long_ranges(alloc)?;
     let _begin = add_log(db, versions, 1, &ranges)?;
-    let ops = clears(alloc, 10_000)?;
+    let ops = clears(alloc, 250)?;
     Ok(commit(db, versions, &ops))
 }
 
@@ -113,7 +113,7 @@ fn a_commit_that_a_log_has_no_room_for_is_refused(rt: HostRuntime) -> Result<(),
     let mut db = empty_db(rt.alloc(), 1_048_576)?;
     let mut versions = Versions { now: 0, pace: 10 };
     let answer = answer_of_many(&mut db, &mut versions, rt.alloc())?;
-    let bytes = 200_120_000_000;
+    let bytes = 5_003_000_000;
     assert!(rt; answer == Err(CommitFault::LogTooLarge { bytes }));
     assert_eq!(rt; versions.now, 10);
     assert!(rt; db.history().is_empty());

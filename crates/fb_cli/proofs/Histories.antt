@@ -3,6 +3,9 @@ use Rattle.std.specs.Prelude.{◌≡◌, ℕ, zero, suc, List, [], ◌∷◌, ma
 use Rattle.std.proofs.Common.{ap, sym, ◌∙◌, subst}
 use Rattle.mutations.specs.declared.Entry.{Entry}
 use Rattle.workload_text.specs.declared.ClientScript.{ClientScript}
+use Rattle.fb_bytes.specs.Bytes.{Bytes}
+use Rattle.fb_bytes.specs.declared.KeyRange.{KeyRange}
+use Rattle.workload_text.specs.declared.Side.{Side}
 use Rattle.workload_text.specs.declared.Side.TheVariants.{Src, Dst}
 use Rattle.workload_text.specs.declared.Workload.{Workload}
 use Rattle.client_core.specs.declared.Outcome.{Outcome}
@@ -10,7 +13,10 @@ use Rattle.client_core.specs.Clients.{ClientState}
 use Rattle.client_core.specs.Legal.{entries_by, IsLegal}
 use Rattle.cluster_core.specs.State.{State, on_side, opening}
 use Rattle.cluster_core.specs.Sound.{IsOrdered, other_side, IsClientSound, Sound}
-use Rattle.cluster_core.specs.Jobs.{Job, JobTold, job_told}
+use Rattle.cluster_core.specs.declared.Job.TheVariants as types
+use Rattle.cluster_core.specs.Backups.{Backup}
+use Rattle.cluster_core.specs.Jobs.{Job, JobTold, job_told, started}
+use Rattle.cluster_core.proofs.Started.{started_backup}
 use Rattle.cluster_core.specs.Laws.{FaithfulLaw}
 use Rattle.container_view.specs.Contents.{file_grammars}
 use Rattle.container_view.specs.Honest.{IsFaithfulStore}
@@ -81,19 +87,34 @@ find_job (x ∷ xs) zero told h = record { job = x; at = refl; told_is = some_is
     some_is a b q = cc
 find_job (x ∷ xs) (suc n) told h = let f : FoundJob xs n told = find_job xs n told h in record { job = f.job; at = f.at; told_is = f.told_is }
 
--- the container of what is told is faithful to these histories
-abbrev IsFaithfulTold : ℕ → List File → List Entry → List Entry → ℕ → JobTold → Type 0
-IsFaithfulTold block files src dst end told = IsFaithfulStore file_grammars (record { history = on_side told.side src dst; now = end; ranges = told.ranges; block = block }) told.container files
+-- a container is faithful to these histories, in these ranges
+abbrev IsFaithfulTo : ℕ → List File → List Entry → List Entry → ℕ → Side → List KeyRange → Bytes → Type 0
+IsFaithfulTo block files src dst end side ranges container = IsFaithfulStore file_grammars (record { history = on_side side src dst; now = end; ranges = ranges; block = block }) container files
+
+-- what is told of a backup names its container and its ranges
+told_backup : (block : ℕ) (files : List File) (src dst : List Entry) (end : ℕ) (backup : Backup) (told : JobTold) (container : Bytes) (ranges : List KeyRange) → job_told (types.Backup backup) ≡ told → started told.terms ≡ Some container → told.terms.ranges ≡ Some ranges → IsFaithfulTo block files src dst end backup.side backup.job.terms.ranges backup.container → IsFaithfulTo block files src dst end told.terms.side ranges container
+told_backup block files src dst end backup told container ranges t c r f =
+    let there : backup.container ≡ container = some_is backup.container container (sym (started_backup backup) ∙ ap (λ (x : JobTold). started x.terms) t ∙ c) in
+    let inside : backup.job.terms.ranges ≡ ranges = some_is backup.job.terms.ranges ranges (ap (λ (x : JobTold). x.terms.ranges) t ∙ r) in
+    let side : backup.side ≡ told.terms.side = ap (λ (x : JobTold). x.terms.side) t in
+    subst (λ (x : Side). IsFaithfulTo block files src dst end x ranges container) side
+    (subst (λ (x : List KeyRange). IsFaithfulTo block files src dst end backup.side x container) inside
+    (subst (λ (x : Bytes). IsFaithfulTo block files src dst end backup.side backup.job.terms.ranges x) there f))
+  where
+    some_is : {X : Type 0} (a b : X) → Some a ≡ Some b → a ≡ b
+    some_is a b q = cc
+
+job_faithful : FaithfulLaw → (p : Workload) (w : State) (files : List File) (place : ℕ) (job : Job) (told : JobTold) (container : Bytes) (ranges : List KeyRange) → Sound p w → w.files ≡ Some files → slice_get w.jobs place ≡ Some job → job_told job ≡ told → started told.terms ≡ Some container → told.terms.ranges ≡ Some ranges → IsFaithfulTo p.settings.block files w.src w.dst w.time told.terms.side ranges container
+job_faithful law p w files place (types.Backup backup) told container ranges h f at t c r = told_backup p.settings.block files w.src w.dst w.time backup told container ranges t c r (law p w files h f place backup at)
 
 -- in a sound state the containers of the report's jobs are faithful to its histories
 are_faithful : FaithfulLaw → (p : Workload) (w : State) (files' : Option (List File)) (report : RunReport) → Sound p w → report.src ≡ w.src → report.dst ≡ w.dst → report.jobs ≡ map job_told w.jobs → report.end ≡ w.time → files' ≡ w.files → AreFaithful p.settings.block files' report
-are_faithful law p w files' report h src dst jobs end stored files f place told at =
+are_faithful law p w files' report h src dst jobs end stored files f place told at container ranges c r =
     let j : FoundJob w.jobs place told = find_job w.jobs place told (ap (λ (js : List JobTold). slice_get js place) (sym jobs) ∙ at) in
-    let k : IsFaithfulTold p.settings.block files w.src w.dst w.time (job_told j.job) = law p w files h (sym stored ∙ f) place j.job j.at in
-    subst (λ (t : JobTold). IsFaithfulTold p.settings.block files report.src report.dst report.end t) j.told_is
-    (subst (λ (n : ℕ). IsFaithfulTold p.settings.block files report.src report.dst n (job_told j.job)) (sym end)
-    (subst (λ (ys : List Entry). IsFaithfulTold p.settings.block files report.src ys w.time (job_told j.job)) (sym dst)
-    (subst (λ (xs : List Entry). IsFaithfulTold p.settings.block files xs w.dst w.time (job_told j.job)) (sym src) k)))
+    let k : IsFaithfulTo p.settings.block files w.src w.dst w.time told.terms.side ranges container = job_faithful law p w files place j.job told container ranges h (sym stored ∙ f) j.at j.told_is c r in
+    subst (λ (n : ℕ). IsFaithfulTo p.settings.block files report.src report.dst n told.terms.side ranges container) (sym end)
+    (subst (λ (ys : List Entry). IsFaithfulTo p.settings.block files report.src ys w.time told.terms.side ranges container) (sym dst)
+    (subst (λ (xs : List Entry). IsFaithfulTo p.settings.block files xs w.dst w.time told.terms.side ranges container) (sym src) k))
 
 -- ---- the report
 

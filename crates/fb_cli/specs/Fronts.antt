@@ -7,7 +7,8 @@ use Rattle.container_view.specs.Honest.{IsFaithfulStore}
 use Rattle.workload_text.specs.declared.ScheduleLine.{ScheduleLine}
 use Rattle.workload_text.specs.declared.Workload.{Workload}
 use Rattle.cluster_core.specs.Elsewhere.{told_of, IsOutside}
-use Rattle.cluster_core.specs.Jobs.{Job}
+use Rattle.cluster_core.specs.declared.Job.TheVariants as types
+use Rattle.cluster_core.specs.Backups.{Backup}
 use Rattle.cluster_core.specs.State.{State, history_on, opening}
 use Rattle.cluster_core.specs.Sound.{source_of}
 use Rattle.report_text.specs.declared.EventLine.{EventLine}
@@ -29,15 +30,15 @@ pub record PlaysFront
   pub run : Tells workload old lines new
   pub causes : HaveCauses lines before after
 
--- In this state each version that a job's container advertises restores, from the bytes of the
--- store's files, to what the job's history has at that version.
+-- In this state each version that a backup's container advertises restores, from the bytes of the
+-- store's files, to what the history of its database has at that version in its ranges.
 abbrev pub AreFaithfulIn : ℕ → Option (List File) → State → Type 0
 AreFaithfulIn block after state =
     (files : List File) → after ≡ Some files →
-    (place : ℕ) (job : Job) → slice_get state.jobs place ≡ Some job →
+    (place : ℕ) (backup : Backup) → slice_get state.jobs place ≡ Some (types.Backup backup) →
     IsFaithfulStore file_grammars
-    (source_of block state.time (history_on job.side state) job)
-    job.container
+    (source_of block state.time (history_on backup.side state) backup)
+    backup.container
     files
 
 -- The store is as a run over a front of the workload's schedule left it: the containers of its jobs

@@ -3,6 +3,8 @@ use Rattle.std.specs.Prelude.{◌≡◌, ◌≢◌, ℕ, suc, List, [], ◌∷�
 use Rattle.std.specs.Prelude.{option_map, slice_get}
 use Rattle.std.specs.List.{AllByRecursion}
 use Rattle.fb_bytes.specs.Bytes.{Bytes}
+use Rattle.fb_bytes.specs.declared.KeyRange.{KeyRange}
+use Rattle.workload_text.specs.declared.Side.{Side}
 use Rattle.fb_outside.specs.declared.File.{File}
 use Rattle.container_view.specs.Contents.{file_grammars}
 use Rattle.container_view.specs.Files.{name_in}
@@ -18,8 +20,8 @@ use Rattle.client_core.specs.Legal.{entries_by, IsLegal}
 use Rattle.cluster_core.specs.declared.Event.{Event}
 use Rattle.cluster_core.specs.declared.Event.TheVariants as events
 use Rattle.cluster_core.specs.declared.StepFault.TheVariants.{NoMemory}
-use Rattle.cluster_core.specs.Elsewhere.{told_of}
-use Rattle.cluster_core.specs.Jobs.{JobTold, job_told}
+use Rattle.cluster_core.specs.Elsewhere.{told_of, IsApart}
+use Rattle.cluster_core.specs.Jobs.{JobTold, job_told, started}
 use Rattle.cluster_core.specs.State.{State, on_side, opening}
 use Rattle.cluster_core.specs.Step.{Turn, Run}
 use Rattle.cluster_core.specs.Sound.{IsOrdered, other_side}
@@ -104,30 +106,33 @@ pub record HasHistory (workload : Workload) (report : RunReport) : Type 0 where
       IsLegal (suc place) script.txns outcomes (on_side script.side report.src report.dst)
       × (entries_by (suc place) (on_side (other_side script.side) report.src report.dst) ≡ [])
 
--- what a job's container is a backup of, by the report: the history of the job's database, in the
--- job's ranges
-abbrev pub source_told : ℕ → RunReport → JobTold → Source
-source_told block report job =
+-- what a job's container is a backup of, by the report: the history of this side's database, in
+-- these ranges
+abbrev pub source_told : ℕ → RunReport → Side → List KeyRange → Source
+source_told block report side ranges =
     record {
-      history = on_side job.side report.src report.dst;
+      history = on_side side report.src report.dst;
       now = report.end;
-      ranges = job.ranges;
+      ranges = ranges;
       block = block;
     }
 
--- Each version that a job's container advertises restores, from the bytes of the store's files, to
--- what the reported history has at that version in the job's ranges.
+-- Of each job that started a container: each version that the container advertises restores, from
+-- the bytes of the store's files, to what the reported history has at that version in the job's
+-- ranges.
 abbrev pub AreFaithful : ℕ → Option (List File) → RunReport → Type 0
 AreFaithful block after report =
     (files : List File) → after ≡ Some files →
     (place : ℕ) (job : JobTold) → slice_get report.jobs place ≡ Some job →
-    IsFaithfulStore file_grammars (source_told block report job) job.container files
+    (container : Bytes) (ranges : List KeyRange) →
+    started job.terms ≡ Some container → job.terms.ranges ≡ Some ranges →
+    IsFaithfulStore file_grammars (source_told block report job.terms.side ranges) container files
 
--- The files outside the containers of the report's jobs are as they were.
+-- The files outside the containers that the report's jobs started are as they were.
 abbrev pub AreKeptElsewhere : Option (List File) → Option (List File) → RunReport → Type 0
 AreKeptElsewhere before after report =
     (name : Bytes) →
-    AllByRecursion (λ (job : JobTold). name_in job.container name ≡ None) report.jobs →
+    AllByRecursion (λ (job : JobTold). IsApart name (started job.terms)) report.jobs →
     told_of after name ≡ told_of before name
 
 -- What the report of a run owes to its workload and to the file store.

@@ -177,179 +177,123 @@ fn ends(
     Ok(exit.status == status && is_same(sink.written().as_slice(), said))
 }
 
-#[test]
-fn the_smallest_job_is_told_and_leaves_three_files(rt: HostRuntime) -> Result<(), Fail> {
-    let files = [
-        (RANGE_NAME, RANGE_FILE),
-        (LOG_NAME, LOG_FILE),
-        (MANIFEST_NAME, MANIFEST),
-    ];
-    assert!(rt; leaves(rt.alloc(), SMALLEST, SMALLEST_REPORT, &files)?);
-    Ok(())
-}
+// The commit is one of the second database.
+const TWO_JOBS: &[u8] = b"block 256\n\
+      pace 10\n\
+      client 1 dst\n\
+      txn\n\
+      set a vvvvvvvvvvvvvvvvvvvvvvvvvvvvvvvvvvvvvvvvvvvvvvvvvvvvvvvvvvvvvvvv\n\
+      set b vvvvvvvvvvvvvvvvvvvvvvvvvvvvvvvvvvvvvvvvvvvvvvvvvvvvvvvvvvvvvvvv\n\
+      set c vvvvvvvvvvvvvvvvvvvvvvvvvvvvvvvvvvvvvvvvvvvvvvvvvvvvvvvvvvvvvvvv\n\
+      set d vvvvvvvvvvvvvvvvvvvvvvvvvvvvvvvvvvvvvvvvvvvvvvvvvvvvvvvvvvvvvvvv\n\
+      operator\n\
+      open one src box\n\
+      open two dst cask\n\
+      dump one \\e \\xff\n\
+      dump two \\e \\xff\n\
+      cut one\n\
+      cut two\n\
+      seal two\n\
+      schedule\n\
+      op\n\
+      op\n\
+      begin 1\n\
+      commit 1\n\
+      op\n\
+      op\n\
+      op\n\
+      op\n\
+      op\n";
 
-// The commit is one of the second database. Its dump has two blocks, and its batch in the log five
-// parts in two blocks.
-#[test]
-fn two_jobs_back_up_their_own_databases(rt: HostRuntime) -> Result<(), Fail> {
-    assert!(rt; plays_two_jobs(rt.alloc(), &[b'v'; 64])?);
-    Ok(())
-}
+const TWO_JOBS_REPORT: &[u8] = b"op open -> done\n\
+      op open -> done\n\
+      begin 1 -> read 20\n\
+      commit 1 -> commit 30\n\
+      op dump -> placed box/kvranges/snapshot.30/0/range,30,1,256\n\
+      op dump -> placed cask/kvranges/snapshot.30/0/range,30,2,256\n\
+      op cut -> placed box/logs/0/log,10,31,3,256\n\
+      op cut -> placed cask/logs/0/log,20,31,4,256\n\
+      op seal -> placed cask/snapshots/snapshot,30,30,416,5\n\
+      client 1 txn 1 try 1 read 20 commit 30\n\
+      entry dst 30 client 1 1\n\
+      set a vvvvvvvvvvvvvvvvvvvvvvvvvvvvvvvvvvvvvvvvvvvvvvvvvvvvvvvvvvvvvvvv\n\
+      set b vvvvvvvvvvvvvvvvvvvvvvvvvvvvvvvvvvvvvvvvvvvvvvvvvvvvvvvvvvvvvvvv\n\
+      set c vvvvvvvvvvvvvvvvvvvvvvvvvvvvvvvvvvvvvvvvvvvvvvvvvvvvvvvvvvvvvvvv\n\
+      set d vvvvvvvvvvvvvvvvvvvvvvvvvvvvvvvvvvvvvvvvvvvvvvvvvvvvvvvvvvvvvvvv\n\
+      job 1 one hand running\n\
+      job 2 two hand running\n\
+      end 30\n";
 
-fn plays_two_jobs(alloc: Global, value: &[u8; 64]) -> Result<bool, AllocError> {
-    let text = two_jobs(alloc, value)?;
-    let said = two_jobs_report(alloc, value)?;
-    let mut sink = MemSink::new(alloc, 2000, &[])?;
-    let exit = played(alloc, text.as_slice(), &[], &mut sink)?;
-    let found = has_two_jobs(alloc, exit.vault.files(), value)?;
-    Ok(found && exit.status == 0 && is_same(sink.written().as_slice(), said.as_slice()))
-}
+// The range file of its four keys: the second block begins with the third key again.
+const TWO_BLOCKS_FILE: &[u8] = b"\
+      \xe9\x03\x00\x00\x00\x00\x00\x00\x00\x00\x00\x01a\x00\x00\x00\x40\
+      vvvvvvvvvvvvvvvvvvvvvvvvvvvvvvvvvvvvvvvvvvvvvvvvvvvvvvvvvvvvvvvv\
+      \x00\x00\x00\x01b\x00\x00\x00\x40\
+      vvvvvvvvvvvvvvvvvvvvvvvvvvvvvvvvvvvvvvvvvvvvvvvvvvvvvvvvvvvvvvvv\
+      \x00\x00\x00\x01c\x00\x00\x00\x40\
+      vvvvvvvvvvvvvvvvvvvvvvvvvvvvvvvvvvvvvvvvvvvvvvvvvvvvvvvvvvvvvvvv\
+      \xff\xff\xff\xff\xff\xff\xff\xff\xff\xff\xff\xff\xff\xff\xff\xff\xff\xff\xff\xff\xff\xff\xff\xff\xff\xff\xff\xff\xff\
+      \xe9\x03\x00\x00\x00\x00\x00\x01c\x00\x00\x00\x01c\x00\x00\x00\x40\
+      vvvvvvvvvvvvvvvvvvvvvvvvvvvvvvvvvvvvvvvvvvvvvvvvvvvvvvvvvvvvvvvv\
+      \x00\x00\x00\x01d\x00\x00\x00\x40\
+      vvvvvvvvvvvvvvvvvvvvvvvvvvvvvvvvvvvvvvvvvvvvvvvvvvvvvvvvvvvvvvvv\
+      \x00\x00\x00\x01\xff";
 
-fn two_jobs(alloc: Global, value: &[u8; 64]) -> Result<Vec<u8>, AllocError> {
-    let sets = four_sets(alloc, value)?;
-    joined(
-        alloc,
+// The log file of its batch, cut into parts of 64 bytes in two blocks.
+const FIVE_PARTS_FILE: &[u8] = b"\
+      \xd1\x07\x00\x00\x00\x00\x00\x0c\x00\x00\x00\x00\x00\x00\x00\x1e\x00\x00\x00\x00\x00\x00\x00\x40\xbd\x1b\x00\x00\x00\x00\x00\x00\x34\x01\x00\x00\x00\x00\x00\x00\x01\x00\x00\x00\x40\x00\x00\x00a\
+      vvvvvvvvvvvvvvvvvvvvvvvvvvvvvvvvvvvvvvv\
+      \x00\x00\x00\x0c\x00\x00\x00\x00\x00\x00\x00\x1e\x00\x00\x00\x01\x00\x00\x00\x40\
+      vvvvvvvvvvvvvvvvvvvvvvvvv\
+      \x00\x00\x00\x00\x01\x00\x00\x00\x40\x00\x00\x00b\
+      vvvvvvvvvvvvvvvvvvvvvvvvvv\
+      \x00\x00\x00\x0c\x00\x00\x00\x00\x00\x00\x00\x1e\x00\x00\x00\x02\x00\x00\x00\x40\
+      vvvvvvvvvvvvvvvvvvvvvvvvvvvvvvvvvvvvvv\
+      \x00\x00\x00\x00\x01\x00\x00\x00\x40\x00\x00\x00c\
+      vvvvvvvvvvvvv\
+      \xd1\x07\x00\x00\x00\x00\x00\x0c\x00\x00\x00\x00\x00\x00\x00\x1e\x00\x00\x00\x03\x00\x00\x00\x40\
+      vvvvvvvvvvvvvvvvvvvvvvvvvvvvvvvvvvvvvvvvvvvvvvvvvvv\
+      \x00\x00\x00\x00\x01\x00\x00\x00\x40\x00\x00\x00d\x00\x00\x00\x0c\x00\x00\x00\x00\x00\x00\x00\x1e\x00\x00\x00\x04\x00\x00\x00\x40\
+      vvvvvvvvvvvvvvvvvvvvvvvvvvvvvvvvvvvvvvvvvvvvvvvvvvvvvvvvvvvvvvvv";
+
+// A name of a file, and its bytes.
+type Named = (&'static [u8], &'static [u8]);
+
+// Texts, with what is said and files that are left. The first of two jobs has an empty database.
+const JOBS: &[(&[u8], &[u8], &[Named])] = &[
+    (
+        SMALLEST,
+        SMALLEST_REPORT,
         &[
-            b"block 256\n\
-              pace 10\n\
-              client 1 dst\n\
-              txn\n",
-            sets.as_slice(),
-            b"operator\n\
-              open one src box\n\
-              open two dst cask\n\
-              dump one \\e \\xff\n\
-              dump two \\e \\xff\n\
-              cut one\n\
-              cut two\n\
-              seal two\n\
-              schedule\n\
-              op\n\
-              op\n\
-              begin 1\n\
-              commit 1\n\
-              op\n\
-              op\n\
-              op\n\
-              op\n\
-              op\n",
+            (RANGE_NAME, RANGE_FILE),
+            (LOG_NAME, LOG_FILE),
+            (MANIFEST_NAME, MANIFEST),
         ],
-    )
-}
-
-fn two_jobs_report(alloc: Global, value: &[u8; 64]) -> Result<Vec<u8>, AllocError> {
-    let sets = four_sets(alloc, value)?;
-    joined(
-        alloc,
+    ),
+    (
+        TWO_JOBS,
+        TWO_JOBS_REPORT,
         &[
-            b"op open -> done\n\
-              op open -> done\n\
-              begin 1 -> read 20\n\
-              commit 1 -> commit 30\n\
-              op dump -> placed box/kvranges/snapshot.30/0/range,30,1,256\n\
-              op dump -> placed cask/kvranges/snapshot.30/0/range,30,2,256\n\
-              op cut -> placed box/logs/0/log,10,31,3,256\n\
-              op cut -> placed cask/logs/0/log,20,31,4,256\n\
-              op seal -> placed cask/snapshots/snapshot,30,30,416,5\n\
-              client 1 txn 1 try 1 read 20 commit 30\n\
-              entry dst 30 client 1 1\n",
-            sets.as_slice(),
-            b"job 1 one hand running\n\
-              job 2 two hand running\n\
-              end 30\n",
-        ],
-    )
-}
-
-// The lines that set four keys to this value.
-fn four_sets(alloc: Global, value: &[u8; 64]) -> Result<Vec<u8>, AllocError> {
-    joined(
-        alloc,
-        &[
-            b"set a ",
-            value,
-            b"\nset b ",
-            value,
-            b"\nset c ",
-            value,
-            b"\nset d ",
-            value,
-            b"\n",
-        ],
-    )
-}
-
-// Whether the first job's files are those of an empty database, and the second's hold the four keys.
-fn has_two_jobs(alloc: Global, files: &Files, value: &[u8; 64]) -> Result<bool, AllocError> {
-    let dump = two_blocks(alloc, value)?;
-    let log = five_parts(alloc, value)?;
-    Ok(
-        has_file(
-            files,
-            b"box/kvranges/snapshot.30/0/range,30,1,256",
-            b"\xe9\x03\x00\x00\x00\x00\x00\x00\x00\x00\x00\x01\xff",
-        ) && has_file(files, b"box/logs/0/log,10,31,3,256", b"")
-            && has_file(
-                files,
+            (
+                b"box/kvranges/snapshot.30/0/range,30,1,256",
+                b"\xe9\x03\x00\x00\x00\x00\x00\x00\x00\x00\x00\x01\xff",
+            ),
+            (b"box/logs/0/log,10,31,3,256", b""),
+            (
                 b"cask/kvranges/snapshot.30/0/range,30,2,256",
-                dump.as_slice(),
-            )
-            && has_file(files, b"cask/logs/0/log,20,31,4,256", log.as_slice()),
-    )
-}
-
-// The range file of four keys with this value of 64 bytes: the second block begins with the third key again.
-fn two_blocks(alloc: Global, value: &[u8; 64]) -> Result<Vec<u8>, AllocError> {
-    let padding = [0xff; 29];
-    joined(
-        alloc,
-        &[
-            b"\xe9\x03\x00\x00\x00\x00\x00\x00\x00\x00\x00\x01a\x00\x00\x00\x40",
-            value,
-            b"\x00\x00\x00\x01b\x00\x00\x00\x40",
-            value,
-            b"\x00\x00\x00\x01c\x00\x00\x00\x40",
-            value,
-            &padding,
-            b"\xe9\x03\x00\x00\x00\x00\x00\x01c\x00\x00\x00\x01c\x00\x00\x00\x40",
-            value,
-            b"\x00\x00\x00\x01d\x00\x00\x00\x40",
-            value,
-            b"\x00\x00\x00\x01\xff",
+                TWO_BLOCKS_FILE,
+            ),
+            (b"cask/logs/0/log,20,31,4,256", FIVE_PARTS_FILE),
         ],
-    )
-}
+    ),
+];
 
-// The log file of one batch that sets four keys to this value of 64 bytes, cut into parts of 64 bytes.
-fn five_parts(alloc: Global, value: &[u8; 64]) -> Result<Vec<u8>, AllocError> {
-    joined(
-        alloc,
-        &[
-            b"\xd1\x07\x00\x00\x00\x00\x00\x0c\x00\x00\x00\x00\x00\x00\x00\x1e\x00\x00\x00\x00\x00\x00\x00\x40\xbd\x1b\x00\x00\x00\x00\x00\x00\x34\x01\x00\x00\x00\x00\x00\x00\x01\x00\x00\x00\x40\x00\x00\x00a",
-            &value[..39],
-            b"\x00\x00\x00\x0c\x00\x00\x00\x00\x00\x00\x00\x1e\x00\x00\x00\x01\x00\x00\x00\x40",
-            &value[..25],
-            b"\x00\x00\x00\x00\x01\x00\x00\x00\x40\x00\x00\x00b",
-            &value[..26],
-            b"\x00\x00\x00\x0c\x00\x00\x00\x00\x00\x00\x00\x1e\x00\x00\x00\x02\x00\x00\x00\x40",
-            &value[..38],
-            b"\x00\x00\x00\x00\x01\x00\x00\x00\x40\x00\x00\x00c",
-            &value[..13],
-            b"\xd1\x07\x00\x00\x00\x00\x00\x0c\x00\x00\x00\x00\x00\x00\x00\x1e\x00\x00\x00\x03\x00\x00\x00\x40",
-            &value[..51],
-            b"\x00\x00\x00\x00\x01\x00\x00\x00\x40\x00\x00\x00d\x00\x00\x00\x0c\x00\x00\x00\x00\x00\x00\x00\x1e\x00\x00\x00\x04\x00\x00\x00\x40",
-            value,
-        ],
-    )
-}
-
-// The pieces, one behind the other.
-fn joined(alloc: Global, pieces: &[&[u8]]) -> Result<Vec<u8>, AllocError> {
-    let mut text = Vec::new(alloc);
-    for piece in pieces {
-        text.extend_from_slice(piece)?;
+#[test]
+fn jobs_are_told_and_leave_their_files(rt: HostRuntime) -> Result<(), Fail> {
+    for (text, said, files) in JOBS {
+        assert!(rt; leaves(rt.alloc(), text, said, files)?);
     }
-    Ok(text)
+    Ok(())
 }
 
 // The store's call that fails, the status, and what is said.

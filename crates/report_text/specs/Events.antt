@@ -5,7 +5,7 @@ use Rattle.fb_bytes.specs.Bytes.{Bytes}
 use Rattle.fb_bytes.specs.Words.{printed}
 use Rattle.workload_text.specs.declared.ScheduleLine.{ScheduleLine}
 use Rattle.workload_text.specs.declared.ScheduleLine.TheVariants.{Begin, Commit, Op}
-use Rattle.cluster_core.specs.declared.JobState.{JobState}
+use Rattle.task_kinds.specs.declared.JobState.{JobState}
 use Rattle.cluster_core.specs.declared.Refusal.{Refusal}
 use Rattle.cluster_core.specs.declared.Refusal.TheVariants.{TagBusy, ContainerTaken, ContainerInUse}
 use Rattle.cluster_core.specs.declared.Refusal.TheVariants.{NoJob, WrongState, OutsideRanges}

@@ -28,7 +28,7 @@ end_line version = line (codes "end" ∷ decimal version ∷ [])
 abbrev pub run_text : Bool → RunReport → Bytes
 run_text brief run =
     flat_map event_line run.lines ++ (if brief then [] else details run.outcomes run.src run.dst)
-    ++ job_lines 1 run.jobs ++ end_line run.end
+    ++ job_lines run.jobs ++ end_line run.end
 
 abbrev pub report_text : Bool → Report → Bytes
 report_text brief (Run run) = run_text brief run

@@ -21,111 +21,97 @@ fn operated(command: CommandKind, answer: Result<Answer, StepFault>) -> EventLin
     }
 }
 
-// The bytes of one line of a schedule.
-fn line_bytes(alloc: Global, event: EventLine) -> Result<Blob, AllocError> {
-    let mut out = Blob::new(alloc);
-    put_events(alloc, &mut out, &[event])?;
-    Ok(out)
-}
-
-#[test]
-fn operator_lines(rt: HostRuntime) -> Result<(), Fail> {
-    let rows: [(CommandKind, Result<Answer, StepFault>, &[u8]); 7] = [
-        (CommandKind::Open, Ok(Answer::Done), b"op open -> done\n"),
-        (
-            CommandKind::Dump,
-            Err(StepFault::VaultFault),
-            b"op dump -> vault-fault\n",
-        ),
-        (
+// Lines of the operator with answers of several kinds.
+fn answers() -> [EventLine; 7] {
+    [
+        operated(CommandKind::Open, Ok(Answer::Done)),
+        operated(CommandKind::Dump, Err(StepFault::VaultFault)),
+        operated(
             CommandKind::Cut,
             Err(StepFault::VersionsSpent { version: 7 }),
-            b"op cut -> versions-spent 7\n",
         ),
-        (
-            CommandKind::Seal,
-            Err(StepFault::NoMemory),
-            b"op seal -> no-memory\n",
-        ),
-        (CommandKind::Abort, Ok(Answer::Done), b"op abort -> done\n"),
-        (
-            CommandKind::Status,
-            Ok(Answer::State { state: None }),
-            b"op status -> never-ran\n",
-        ),
-        (
+        operated(CommandKind::Seal, Err(StepFault::NoMemory)),
+        operated(CommandKind::Abort, Ok(Answer::Done)),
+        operated(CommandKind::Status, Ok(Answer::State { state: None })),
+        operated(
             CommandKind::Status,
             Ok(Answer::State {
                 state: Some(JobState::Aborted),
             }),
-            b"op status -> aborted\n",
         ),
-    ];
-    for (command, answer, text) in rows {
-        let line = line_bytes(rt.alloc(), operated(command, answer))?;
-        assert_eq!(rt; line.as_slice(), text);
-    }
+    ]
+}
+
+const ANSWERS: &[u8] = b"op open -> done\n\
+      op dump -> vault-fault\n\
+      op cut -> versions-spent 7\n\
+      op seal -> no-memory\n\
+      op abort -> done\n\
+      op status -> never-ran\n\
+      op status -> aborted\n";
+
+#[test]
+fn operator_lines(rt: HostRuntime) -> Result<(), Fail> {
+    let events = answers();
+    let mut out = Blob::new(rt.alloc());
+    put_events(rt.alloc(), &mut out, &events)?;
+    assert_eq!(rt; out.as_slice(), ANSWERS);
     Ok(())
 }
 
 // The line of a dump that was refused.
-fn refused(alloc: Global, refusal: Refusal) -> Result<Blob, AllocError> {
-    line_bytes(
-        alloc,
-        operated(CommandKind::Dump, Ok(Answer::Refused(refusal))),
-    )
+fn refused(refusal: Refusal) -> EventLine {
+    operated(CommandKind::Dump, Ok(Answer::Refused(refusal)))
 }
+
+// Dumps that are refused, each with a key or a version.
+fn refusals(alloc: Global) -> Result<[EventLine; 4], AllocError> {
+    let outside = Blob::from_slice(alloc, b"k v")?;
+    let again = Blob::from_slice(alloc, b"m")?;
+    Ok([
+        refused(Refusal::OutsideRanges { key: outside }),
+        refused(Refusal::Overlap { key: again }),
+        refused(Refusal::NothingNew { version: 20 }),
+        refused(Refusal::Untiled {
+            key: Blob::new(alloc),
+        }),
+    ])
+}
+
+const REFUSALS: &[u8] = b"op dump -> refused outside-ranges k\\x20v\n\
+      op dump -> refused overlap m\n\
+      op dump -> refused nothing-new 20\n\
+      op dump -> refused untiled \\e\n";
 
 #[test]
 fn refusals_with_keys(rt: HostRuntime) -> Result<(), Fail> {
-    let alloc = rt.alloc();
-    let outside = Blob::from_slice(alloc, b"k v")?;
-    let again = Blob::from_slice(alloc, b"m")?;
-    let rows: [(Refusal, &[u8]); 4] = [
-        (
-            Refusal::OutsideRanges { key: outside },
-            b"op dump -> refused outside-ranges k\\x20v\n",
-        ),
-        (
-            Refusal::Overlap { key: again },
-            b"op dump -> refused overlap m\n",
-        ),
-        (
-            Refusal::NothingNew { version: 20 },
-            b"op dump -> refused nothing-new 20\n",
-        ),
-        (
-            Refusal::Untiled {
-                key: Blob::new(alloc),
-            },
-            b"op dump -> refused untiled \\e\n",
-        ),
-    ];
-    for (refusal, text) in rows {
-        let line = refused(alloc, refusal)?;
-        assert_eq!(rt; line.as_slice(), text);
-    }
+    let events = refusals(rt.alloc())?;
+    let mut out = Blob::new(rt.alloc());
+    put_events(rt.alloc(), &mut out, &events)?;
+    assert_eq!(rt; out.as_slice(), REFUSALS);
     Ok(())
 }
 
+// Each way in which a try ends.
+const ENDS: &[End] = &[
+    End::Commit { version: 20 },
+    End::ReadOnly,
+    End::Fault(CommitFault::Outside { index: 0 }),
+    End::Fault(CommitFault::KeyTooLarge { index: 1 }),
+    End::Fault(CommitFault::ValueTooLarge { index: 2 }),
+    End::Fault(CommitFault::TooLarge { bytes: 10_000_001 }),
+    End::Fault(CommitFault::VersionsSpent { version: 7 }),
+    End::Fault(CommitFault::LogTooLarge {
+        bytes: 4_294_967_296,
+    }),
+    End::Fault(CommitFault::NoMemory),
+];
+
 #[test]
 fn ends(rt: HostRuntime) -> Result<(), Fail> {
-    let ends = [
-        End::Commit { version: 20 },
-        End::ReadOnly,
-        End::Fault(CommitFault::Outside { index: 0 }),
-        End::Fault(CommitFault::KeyTooLarge { index: 1 }),
-        End::Fault(CommitFault::ValueTooLarge { index: 2 }),
-        End::Fault(CommitFault::TooLarge { bytes: 10_000_001 }),
-        End::Fault(CommitFault::VersionsSpent { version: 7 }),
-        End::Fault(CommitFault::LogTooLarge {
-            bytes: 4_294_967_296,
-        }),
-        End::Fault(CommitFault::NoMemory),
-    ];
     let mut out = Blob::new(rt.alloc());
-    for end in ends {
-        put_end(&mut out, end)?;
+    for end in ENDS {
+        put_end(&mut out, *end)?;
     }
     let text =
         b" commit 20\n readonly\n 2004 0\n 2102 1\n 2103 2\n 2101 10000001\n versions-spent 7\n log-too-large 4294967296\n no-memory\n";
@@ -133,21 +119,23 @@ fn ends(rt: HostRuntime) -> Result<(), Fail> {
     Ok(())
 }
 
+// Each author of an entry.
+const WHOS: &[Who] = &[
+    Who::Client {
+        client: 2,
+        place: 3,
+    },
+    Who::Load { job: 1 },
+    Who::Apply { job: 1 },
+    Who::Lock { job: 1 },
+    Who::Unlock { job: 1 },
+];
+
 #[test]
 fn authors_and_mutations(rt: HostRuntime) -> Result<(), Fail> {
-    let whos = [
-        Who::Client {
-            client: 2,
-            place: 3,
-        },
-        Who::Load { job: 1 },
-        Who::Apply { job: 1 },
-        Who::Lock { job: 1 },
-        Who::Unlock { job: 1 },
-    ];
     let mut out = Blob::new(rt.alloc());
-    for who in whos {
-        put_who(&mut out, who)?;
+    for who in WHOS {
+        put_who(&mut out, *who)?;
     }
     let mutations = [
         Mutation::ClearRange {

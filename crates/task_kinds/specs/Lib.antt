@@ -4,3 +4,4 @@ pub mod Tasks
 pub mod Tuples
 pub mod Works
 pub mod Laws
+pub mod States

@@ -1,4 +1,4 @@
-//! The kinds of tasks, the tasks, and their tuples.
+//! The kinds of tasks, the tasks, their tuples, and how far a job has come.
 #![tactic(auto)]
 
 /// The table of kinds: variant, code, word, whether its take keeps something, whether it places a
@@ -32,6 +32,7 @@ macro_rules! each_kind {
 }
 
 mod fault;
+mod job_state;
 mod kind;
 mod laws;
 mod params;
@@ -39,6 +40,7 @@ mod task;
 mod tuples;
 
 pub use fault::KindFault;
+pub use job_state::JobState;
 pub use kind::{Kind, Shape};
 pub use laws::work_law;
 pub use params::Params;

@@ -22,7 +22,7 @@ use std::alloc::{AllocError, Global};
 use std::sync::ledger::Ledger;
 
 /// How many keys a chunk has before it is split.
-const MOST: usize = 256;
+const MOST: usize = 128;
 
 /// The place of the chunk that a key belongs to.
 pub fn chunk_of<L: Ledger>(chunks: &[Table<Chain>], key: &[u8], steps: &mut Steps<L>) -> usize

@@ -1,4 +1,4 @@
-ghost use Rattle.std.specs.Prelude.{◌≡◌, true, IfOk, OnOk};
+ghost use Rattle.std.specs.Prelude.{◌≡◌, true, [], IfOk, OnOk};
 ghost use Rattle.block_frame.specs.Profiles.{key_limit_of, limit_of};
 ghost use Rattle.workload_text.specs.declared.reader.Place.TheVariants as places;
 ghost use Rattle.workload_text.specs.Commands.{IsWithin};
@@ -188,11 +188,23 @@ impl Reader {
         if is_refused(self.block, &self.ops) {
             return Err(TextFault::NotBuilt { line });
         }
-        self.ops.shrink_to_fit();
-        let ops = mem::replace(&mut self.ops, TxOps::new(alloc));
+        let ops = self.take_ops(alloc)?;
         self.txns.push(ops)?;
         self.place = Place::Client;
         Ok(())
+    }
+
+    /// Takes the operations out, into memory of just their size. What they stood in stays for the next
+    /// transaction.
+    fn take_ops(&mut self, alloc: Global) -> Result<TxOps, AllocError>
+        ensures taken { IfOk result (λ ops. ops ≡ self.old.ops) }
+        ensures left { OnOk result (self.new ≡ record self.old { ops = [] }) }
+    {
+        let mut list = mem::replace(&mut self.ops, TxOps::new(alloc)).into_vec();
+        let mut ops = Vec::with_capacity(alloc, list.len())?;
+        ops.append(&mut list)?;
+        self.ops = TxOps::from_vec(list);
+        Ok(TxOps::from_vec(ops))
     }
 
     /// What all lines say, where `end` is the number after the last one.

@@ -1,4 +1,7 @@
 -- The command cut.
+use Rattle.cluster_core.specs.declared.job.Job.TheVariants as types
+use Rattle.cluster_core.specs.Backups.{Backup}
+use Rattle.task_kinds.specs.States.{has_ended}
 use Rattle.std.specs.Prelude.{◌≡◌, ℕ, ◌+◌, ◌≤◌, Bool, true, false, not, List, [], ◌∷◌, refl}
 use Rattle.std.specs.List.{AllByRecursion}
 use Rattle.std.proofs.Common.{ap, sym, ◌∙◌, arith, subst}
@@ -7,13 +10,13 @@ use Rattle.fb_bytes.specs.declared.KeyRange.{KeyRange}
 use Rattle.fb_bytes.specs.Keys.{in_ranges}
 use Rattle.mutations.specs.declared.Entry.{Entry}
 use Rattle.file_names.specs.Reading.{name_of}
-use Rattle.backup_core.specs.Hand.{cut_to}
+use Rattle.backup_core.specs.Backups.{cut_to}
 use Rattle.cluster_core.specs.Jobs.{Job}
-use Rattle.cluster_core.specs.Sound.{IsJobSound}
+use Rattle.cluster_core.specs.Sound.{BackupSound}
 use Rattle.cluster_core.proofs.Known.{Known}
-use Rattle.std.specs.Prelude.{nat_lt, ◌≡◌, ℕ, zero, suc, ◌+◌, ◌^◌, ◌<◌, ◌≤◌, Bool, true, false, not, ◌&&◌, cond, List, [], ◌∷◌, length, Some, slice_get, slice_index_or, if◌then◌else◌, refl}
+use Rattle.std.specs.Prelude.{nat_lt, ◌≡◌, ℕ, ◌+◌, ◌^◌, ◌<◌, ◌≤◌, Bool, true, false, not, cond, List, [], ◌∷◌, length, Some, slice_get, if◌then◌else◌, refl}
 use Rattle.std.proofs.Common.{ap, sym, ◌∙◌, arith, subst}
-use Rattle.std.proofs.lemmas.Bool.{and_from, lt-ltb, le-ltb, eq-eqb, ne_eqb}
+use Rattle.std.proofs.lemmas.Bool.{lt-ltb, le-ltb}
 use Rattle.std.proofs.lemmas.Option.{slice_get_within}
 use Rattle.fb_bytes.specs.Bytes.{Bytes}
 use Rattle.fb_bytes.specs.Blocks.{is_block}
@@ -23,7 +26,6 @@ use Rattle.log_files.specs.Writing.{log_text}
 use Rattle.log_files.specs.Writing as logs
 use Rattle.container_view.specs.Files.{whole_name}
 use Rattle.workload_text.specs.declared.Side.{Side}
-use Rattle.workload_text.specs.declared.Side.TheVariants.{Src, Dst}
 use Rattle.workload_text.specs.declared.Settings.{Settings}
 use Rattle.workload_text.specs.declared.Workload.{Workload}
 use Rattle.database.specs.declared.JobLog.{JobLog}
@@ -32,14 +34,16 @@ use Rattle.database.specs.Commits.{most_version}
 use Rattle.cluster_core.specs.declared.change.Change.TheVariants as changes
 use Rattle.cluster_core.specs.inner.Plans.{files}
 use Rattle.cluster_core.specs.declared.plan.Filing.{Filing}
-use Rattle.cluster_core.specs.declared.plan.Plan.TheVariants.{Put}
+use Rattle.cluster_core.specs.declared.plan.Plan.TheVariants.{Put, Refuse}
 use Rattle.cluster_core.specs.declared.refusal.Refusal.TheVariants.{NothingNew}
-use Rattle.cluster_core.specs.Jobs.{Job, is_on, logs_from, logs_of}
+use Rattle.cluster_core.specs.Jobs.{Job, logs_of, with_backup}
+use Rattle.cluster_core.specs.Sound.{AreNumbered}
+use Rattle.cluster_core.proofs.Numbering.{log_for, own_log, log_found}
 use Rattle.cluster_core.specs.State.{State, history_on}
 use Rattle.cluster_core.specs.Moves.{Luck}
 use Rattle.cluster_core.specs.commands.Shared.{refuses}
 use Rattle.cluster_core.specs.commands.Cut.{cut_bytes, cut_name, cut_put, cut_log}
-use Rattle.cluster_core.specs.inner.Plans.{planned, IsSafe}
+use Rattle.cluster_core.specs.inner.Plans.{planned, IsPlanAt, IsSafe}
 use Rattle.cluster_core.specs.Sound.{Sound}
 use Rattle.cluster_core.proofs.Relied.{known}
 use Rattle.std.specs.Prelude.{◌≡◌, ℕ, ◌+◌, ◌<◌, ◌≤◌, Bool, true, false, not, cond, List, [], ◌∷◌, ◌++◌, Some, nat_le, nat_lt, if◌then◌else◌, refl}
@@ -62,7 +66,7 @@ use Rattle.std.specs.Prelude.{◌≡◌, ℕ, ◌+◌, ◌++◌, Bool, true, fal
 use Rattle.std.specs.Prelude.{◌≤◌}
 use Rattle.std.proofs.Common.{subst, arith}
 use Rattle.cluster_core.specs.declared.refusal.Refusal.TheVariants.{NothingNew}
-use Rattle.cluster_core.specs.Jobs.{Job, Found, logs_of}
+use Rattle.cluster_core.specs.Backups.{FoundBackup}
 use Rattle.cluster_core.specs.State.{State, history_on}
 use Rattle.cluster_core.specs.Moves.{Luck}
 use Rattle.cluster_core.specs.commands.Shared.{refuses}
@@ -71,22 +75,22 @@ use Rattle.std.specs.Prelude.{◌≡◌, ℕ, ◌+◌, ◌≤◌, Bool, true, fa
 use Rattle.std.proofs.lemmas.Bool.{ltb-false}
 use Rattle.file_names.specs.declared.Name.TheVariants.{Log}
 use Rattle.container_view.specs.Honest.{IsHonestFile}
-use Rattle.backup_core.specs.Hand.{log_name}
+use Rattle.backup_core.specs.Backups.{log_name}
 use Rattle.cluster_core.specs.declared.refusal.Refusal.TheVariants.{NothingNew}
-use Rattle.cluster_core.specs.Jobs.{Job, Found}
+use Rattle.cluster_core.specs.Backups.{FoundBackup}
 use Rattle.cluster_core.specs.State.{State, history_on}
 use Rattle.cluster_core.specs.Moves.{Luck}
 use Rattle.cluster_core.specs.commands.Shared.{refuses}
-use Rattle.cluster_core.specs.Sound.{IsJobSound, Sound, source_of}
+use Rattle.cluster_core.specs.Sound.{BackupSound, Sound, source_of}
 use Rattle.cluster_core.proofs.Named.{named, log_spelled}
 use Rattle.cluster_core.proofs.Grown.{job_grown}
 use Rattle.cluster_core.proofs.Puts.{IsFresh}
 use Rattle.cluster_core.proofs.Frames.{sound_gone}
-use Rattle.cluster_core.proofs.commands.Jobs.{same_job}
+use Rattle.cluster_core.proofs.commands.Jobs.{some_is}
 use Rattle.cluster_core.proofs.Touching.{Touches, gone}
 use Rattle.cluster_core.proofs.commands.Puts.{putting_touches, IsOrder, putting_keeps, nothing_listed, later_tickets, same_time}
 
-pub cut_sound : (block now tickets : ℕ) (history : List Entry) (job : Job) → IsJobSound block now tickets history job → job.hand.next ≤ now → IsJobSound block now tickets history (record job { hand = cut_to job.hand now })
+pub cut_sound : (block now tickets : ℕ) (history : List Entry) (job : Backup) → BackupSound block now tickets history job → job.job.next ≤ now → BackupSound block now tickets history (record job { job = cut_to job.job now })
 cut_sound block now tickets history job h n = record {
   named = h.named;
   ranges = h.ranges;
@@ -108,54 +112,21 @@ number_fits jobs place len cap job at ok small =
     let m = ok.1 in
     omega arith
 
-abbrev log_for : ℕ → Job → JobLog
-log_for number job = record { job = number; ranges = job.hand.map.ranges; begin = job.hand.begin }
-
-own_side : (side t : Side) → side ≡ t → is_on side t ≡ true
-own_side Src Src e = refl
-own_side Src Dst e = cc
-own_side Dst Src e = cc
-own_side Dst Dst e = refl
-
--- a log in front that is another job's isn't looked at
-behind : (b : Bool) (log : JobLog) (rest : List JobLog) (number : ℕ) → (log.job ≡ number → ⊥) → log_of (if b then log ∷ rest else rest) number ≡ log_of rest number
-behind true log rest number d = ap (λ (b : Bool). if b then Some log else log_of rest number) (ne_eqb log.job number d)
-behind false log rest number d = refl
-
-in_front : (log : JobLog) (rest : List JobLog) (number : ℕ) → log.job ≡ number → log_of (log ∷ rest) number ≡ Some log
-in_front log rest number e = ap (λ (b : Bool). if b then Some log else log_of rest number) (eq-eqb log.job number e)
-
-log_from : (side : Side) (number : ℕ) (jobs : List Job) (place : ℕ) (job : Job) → slice_get jobs place ≡ Some job → side ≡ job.side → job.hand.aborted ≡ false → log_of (logs_from side number jobs) (number + place) ≡ Some (log_for (number + place) job)
-log_from side number [] zero job at s r = cc
-log_from side number [] (suc place) job at s r = cc
-log_from side number (x ∷ xs) zero job at s r =
-    let same : x ≡ job = cc in
-    let own : is_on side x.side && not x.hand.aborted ≡ true = ap (λ (y : Job). is_on side y.side && not y.hand.aborted) same ∙ and_from (is_on side job.side) (not job.hand.aborted) (own_side side job.side s) (ap not r) in
-    let e : number ≡ number + zero = omega arith in
-    ap (λ (b : Bool). log_of (if b then log_for number x ∷ logs_from side (number + 1) xs else logs_from side (number + 1) xs) (number + zero)) own
-    ∙ in_front (log_for number x) (logs_from side (number + 1) xs) (number + zero) e
-    ∙ ap (λ (n : ℕ). Some (log_for n x)) e
-    ∙ ap (λ (y : Job). Some (log_for (number + zero) y)) same
-log_from side number (x ∷ xs) (suc place) job at s r =
-    let e : number + 1 + place ≡ number + suc place = omega arith in
-    behind (is_on side x.side && not x.hand.aborted) (log_for number x) (logs_from side (number + 1) xs) (number + suc place) (λ d. omega arith)
-    ∙ subst (λ (n : ℕ). log_of (logs_from side (number + 1) xs) n ≡ Some (log_for n job)) e (log_from side (number + 1) xs place job at s r)
-
-pub log_there : (side : Side) (jobs : List Job) (place : ℕ) (job : Job) (logs : List JobLog) → slice_get jobs place ≡ Some job → side ≡ job.side → job.hand.aborted ≡ false → logs ≡ logs_of side jobs → log_of logs (place + 1) ≡ Some (log_for (place + 1) job)
-log_there side jobs place job logs at s r l =
+log_there : (side : Side) (jobs : List Job) (place : ℕ) (job : Backup) (logs : List JobLog) → AreNumbered 1 jobs → slice_get jobs place ≡ Some (types.Backup job) → side ≡ job.side → has_ended job.job.state ≡ false → logs ≡ logs_of side jobs → log_of logs (place + 1) ≡ Some (log_for job)
+log_there side jobs place job logs n at s r l =
     let e : 1 + place ≡ place + 1 = omega arith in
-    ap (λ (xs : List JobLog). log_of xs (place + 1)) l ∙ subst (λ (n : ℕ). log_of (logs_of side jobs) n ≡ Some (log_for n job)) e (log_from side 1 jobs place job at s r)
+    ap (λ (xs : List JobLog). log_of xs (place + 1)) l ∙ subst (λ (m : ℕ). log_of (logs_of side jobs) m ≡ Some (log_for job)) e (log_found side 1 jobs place (types.Backup job) (log_for job) n at (own_log side job s r))
 
-pub has_log : (side : Side) (jobs : List Job) (place : ℕ) (job : Job) (logs : List JobLog) → slice_get jobs place ≡ Some job → side ≡ job.side → job.hand.aborted ≡ false → logs ≡ logs_of side jobs → (log : JobLog) × (log_of logs (place + 1) ≡ Some log)
-has_log side jobs place job logs at s r l = (log_for (place + 1) job, log_there side jobs place job logs at s r l)
+pub has_log : (side : Side) (jobs : List Job) (place : ℕ) (job : Backup) (logs : List JobLog) → AreNumbered 1 jobs → slice_get jobs place ≡ Some (types.Backup job) → side ≡ job.side → has_ended job.job.state ≡ false → logs ≡ logs_of side jobs → (log : JobLog) × (log_of logs (place + 1) ≡ Some log)
+has_log side jobs place job logs n at s r l = (log_for job, log_there side jobs place job logs n at s r l)
 
 -- what a chunk of a database's log has
-pub chunk_batches : (w : State) (side : Side) (place : ℕ) (job : Job) (logs : List JobLog) (history : List Entry) (from until begin end : ℕ) (batches : List Batch) → slice_get w.jobs place ≡ Some job → side ≡ job.side → job.hand.aborted ≡ false → logs ≡ logs_of side w.jobs → history ≡ history_on side w → begin ≡ from → end ≡ until → ((log : JobLog) → log_of logs (place + 1) ≡ Some log → batches ≡ logged history log.ranges from until) → batches ≡ logged (history_on job.side w) job.hand.map.ranges begin end
-chunk_batches w side place job logs history from until begin end batches at s r l h b e c =
-    c (log_for (place + 1) job) (log_there side w.jobs place job logs at s r l)
-    ∙ ap (λ (xs : List Entry). logged xs job.hand.map.ranges from until) (h ∙ ap (λ (t : Side). history_on t w) s)
-    ∙ ap (λ (n : ℕ). logged (history_on job.side w) job.hand.map.ranges n until) (sym b)
-    ∙ ap (logged (history_on job.side w) job.hand.map.ranges begin) (sym e)
+pub chunk_batches : (w : State) (side : Side) (place : ℕ) (job : Backup) (logs : List JobLog) (history : List Entry) (from until begin end : ℕ) (batches : List Batch) → AreNumbered 1 w.jobs → slice_get w.jobs place ≡ Some (types.Backup job) → side ≡ job.side → has_ended job.job.state ≡ false → logs ≡ logs_of side w.jobs → history ≡ history_on side w → begin ≡ from → end ≡ until → ((log : JobLog) → log_of logs (place + 1) ≡ Some log → batches ≡ logged history log.ranges from until) → batches ≡ logged (history_on job.side w) job.job.terms.ranges begin end
+chunk_batches w side place job logs history from until begin end batches n at s r l h b e c =
+    c (log_for job) (log_there side w.jobs place job logs n at s r l)
+    ∙ ap (λ (xs : List Entry). logged xs job.job.terms.ranges from until) (h ∙ ap (λ (t : Side). history_on t w) s)
+    ∙ ap (λ (m : ℕ). logged (history_on job.side w) job.job.terms.ranges m until) (sym b)
+    ∙ ap (logged (history_on job.side w) job.job.terms.ranges begin) (sym e)
 
 all_append : {X : Type 0} (P : X → Type 0) (xs ys : List X) → AllByRecursion P xs → AllByRecursion P ys → AllByRecursion P (xs ++ ys)
 all_append P [] ys a b = b
@@ -223,80 +194,80 @@ cut_writable k block begin end low history job b r l a =
     let log = k.logged history job begin end r in
     record { size_listed = b; logged = logged_list begin end (logged history job begin end) (within_parts begin end (logged history job begin end) log.within) log.rising (batches_spelled history job low begin end l a) }
 
-pub chunk_writable : (p : Workload) (w : State) (place : ℕ) (job : Job) (block begin end : ℕ) (batches : List Batch) → Sound p w → slice_get w.jobs place ≡ Some job → job.hand.aborted ≡ false → block ≡ p.settings.block → begin ≡ job.hand.next → batches ≡ logged (history_on job.side w) job.hand.map.ranges begin end → logs.IsWritable block begin end batches
+pub chunk_writable : (p : Workload) (w : State) (place : ℕ) (job : Backup) (block begin end : ℕ) (batches : List Batch) → Sound p w → slice_get w.jobs place ≡ Some (types.Backup job) → has_ended job.job.state ≡ false → block ≡ p.settings.block → begin ≡ job.job.next → batches ≡ logged (history_on job.side w) job.job.terms.ranges begin end → logs.IsWritable block begin end batches
 chunk_writable p w place job block begin end batches h at r b n e =
-    let j = h.jobs.each place job at in
+    let j = h.jobs.each place (types.Backup job) at in
     let listed : is_block p.settings.block ≡ true = p.settings.block_listed in
-    let begun : job.hand.begin ≤ begin = (let q = j.begun in omega arith) in
+    let begun : job.job.begin ≤ begin = (let q = j.begun in omega arith) in
     subst (λ (k : ℕ). logs.IsWritable k begin end batches) (sym b)
     (subst (λ (bs : List Batch). logs.IsWritable p.settings.block begin end bs) (sym e)
-    (cut_writable known p.settings.block begin end job.hand.begin (history_on job.side w) job.hand.map.ranges listed (h.databases.histories job.side).rising begun (j.logged r)))
+    (cut_writable known p.settings.block begin end job.job.begin (history_on job.side w) job.job.terms.ranges listed (h.databases.histories job.side).rising begun (j.logged r)))
 
-pub chunk_text : (p : Workload) (w : State) (job : Job) (block begin end : ℕ) (batches : List Batch) → block ≡ p.settings.block → begin ≡ job.hand.next → end ≡ w.time + 1 → batches ≡ logged (history_on job.side w) job.hand.map.ranges begin end → log_text block batches ≡ cut_bytes p.settings w job
+pub chunk_text : (p : Workload) (w : State) (job : Backup) (block begin end : ℕ) (batches : List Batch) → block ≡ p.settings.block → begin ≡ job.job.next → end ≡ w.time + 1 → batches ≡ logged (history_on job.side w) job.job.terms.ranges begin end → log_text block batches ≡ cut_bytes p.settings w job
 chunk_text p w job block begin end batches b n t e =
     ap (λ (k : ℕ). log_text k batches) b
-    ∙ ap (log_text p.settings.block) (e ∙ ap (λ (k : ℕ). logged (history_on job.side w) job.hand.map.ranges k end) n ∙ ap (λ (k : ℕ). logged (history_on job.side w) job.hand.map.ranges job.hand.next k) t)
+    ∙ ap (log_text p.settings.block) (e ∙ ap (λ (k : ℕ). logged (history_on job.side w) job.job.terms.ranges k end) n ∙ ap (λ (k : ℕ). logged (history_on job.side w) job.job.terms.ranges job.job.next k) t)
 
-pub cut_refused : (s : Settings) (w : State) (place : ℕ) (found job : Job) (version next : ℕ) → found ≡ slice_index_or w.jobs place found → next ≡ found.hand.next → version < next → version ≡ w.time → slice_get w.jobs place ≡ Some job → (luck : Luck) → cut_log s w luck (record { place = place; job = job }) ≡ refuses (NothingNew version) w
-cut_refused s w place found job version next e n l t at luck =
-    let same : next ≡ job.hand.next = n ∙ ap (λ (x : Job). x.hand.next) (same_job w.jobs place job found at e) in
-    ap (λ (b : Bool). cond b (refuses (NothingNew w.time) w) (cut_put s w luck (record { place = place; job = job }))) (lt-ltb w.time job.hand.next (omega arith))
+pub cut_refused : (s : Settings) (w : State) (place : ℕ) (backup : Backup) (job : Job) (version next : ℕ) → slice_get w.jobs place ≡ Some (types.Backup backup) → next ≡ backup.job.next → version < next → version ≡ w.time → slice_get w.jobs place ≡ Some job → IsPlanAt s w (cut_log s w) (record { place = place; job = job }) (Refuse (NothingNew version))
+cut_refused s w place backup job version next e n l t at luck =
+    ap (λ (x : Job). with_backup (cut_log s w luck) place x) (some_is job (types.Backup backup) (sym at ∙ e))
+    ∙ ap (λ (b : Bool). cond b (refuses (NothingNew w.time) w) (cut_put s w luck (record { place = place; backup = backup }))) (lt-ltb w.time backup.job.next (omega arith))
     ∙ ap (λ (k : ℕ). refuses (NothingNew k) w) (sym t)
 
-abbrev pub cut_filing : Settings → State → ℕ → Job → Filing
+abbrev pub cut_filing : Settings → State → ℕ → Backup → Filing
 cut_filing s w place job = record { place = place; change = changes.Cut w.time; whole = whole_name job.container (cut_name s w job); bytes = cut_bytes s w job }
 
-pub cut_planned : (s : Settings) (w : State) (place : ℕ) (found job : Job) (version next : ℕ) (filing : Filing) → found ≡ slice_index_or w.jobs place found → next ≡ found.hand.next → next ≤ version → version ≡ w.time → filing ≡ cut_filing s w place found → slice_get w.jobs place ≡ Some job → (luck : Luck) → cut_log s w luck (record { place = place; job = job }) ≡ planned s w luck (Put filing)
-cut_planned s w place found job version next filing e n l t f at luck =
-    let same : next ≡ job.hand.next = n ∙ ap (λ (x : Job). x.hand.next) (same_job w.jobs place job found at e) in
-    ap (λ (b : Bool). cond b (refuses (NothingNew w.time) w) (cut_put s w luck (record { place = place; job = job }))) (le-ltb w.time job.hand.next (omega arith))
-    ∙ sym (ap (files w (cut_filing s w place job) luck) at)
-    ∙ ap (λ (x : Job). planned s w luck (Put (cut_filing s w place x))) (sym (same_job w.jobs place job found at e))
+pub cut_planned : (s : Settings) (w : State) (place : ℕ) (backup : Backup) (job : Job) (version next : ℕ) (filing : Filing) → slice_get w.jobs place ≡ Some (types.Backup backup) → next ≡ backup.job.next → next ≤ version → version ≡ w.time → filing ≡ cut_filing s w place backup → slice_get w.jobs place ≡ Some job → IsPlanAt s w (cut_log s w) (record { place = place; job = job }) (Put filing)
+cut_planned s w place backup job version next filing e n l t f at luck =
+    ap (λ (x : Job). with_backup (cut_log s w luck) place x) (some_is job (types.Backup backup) (sym at ∙ e))
+    ∙ ap (λ (b : Bool). cond b (refuses (NothingNew w.time) w) (cut_put s w luck (record { place = place; backup = backup }))) (le-ltb w.time backup.job.next (omega arith))
+    ∙ sym (ap (files w (cut_filing s w place backup) luck) e)
     ∙ ap (λ (x : Filing). planned s w luck (Put x)) (sym f)
 
-pub cut_safe : (s : Settings) (w : State) (place : ℕ) (found job : Job) (filing : Filing) → found ≡ slice_index_or w.jobs place found → slice_get w.jobs place ≡ Some job → filing ≡ cut_filing s w place found → w.tickets ≤ most_version → w.time ≤ most_version → IsSafe w (Put filing)
-cut_safe s w place found job filing e at f t b =
+pub cut_safe : (s : Settings) (w : State) (place : ℕ) (backup : Backup) (filing : Filing) → slice_get w.jobs place ≡ Some (types.Backup backup) → filing ≡ cut_filing s w place backup → w.tickets ≤ most_version → w.time ≤ most_version → IsSafe w (Put filing)
+cut_safe s w place backup filing e f t b =
     subst (λ (x : Filing). IsSafe w (Put x)) (sym f)
-    (record { tickets = t; can = omega arith; job = job; at = at })
+    (record { tickets = t; can = omega arith; job = types.Backup backup; at = e })
 
-pub cut_honest : (k : Known) (block now begin low : ℕ) (history : List Entry) (job : Job) (name : Bytes) → is_block block ≡ true → now ≤ most_version → IsRising history → low ≤ begin → AreLoggable job.hand.map.ranges low history → IsHonestLog (source_of block now history job) (log_file file_grammars name (log_text block (logged history job.hand.map.ranges begin (now + 1))) begin (now + 1) block)
+pub cut_honest : (k : Known) (block now begin low : ℕ) (history : List Entry) (job : Backup) (name : Bytes) → is_block block ≡ true → now ≤ most_version → IsRising history → low ≤ begin → AreLoggable job.job.terms.ranges low history → IsHonestLog (source_of block now history job) (log_file file_grammars name (log_text block (logged history job.job.terms.ranges begin (now + 1))) begin (now + 1) block)
 cut_honest k block now begin low history job name b n r l a = record {
   past = let e : now + 1 ≤ now + 1 = omega arith in e;
   block = refl;
-  content = k.contents.log begin (now + 1) block (logged history job.hand.map.ranges begin (now + 1)) (let e : now + 1 < 18446744073709551616 = omega arith in e) (cut_writable k block begin (now + 1) low history job.hand.map.ranges b r l a);
+  content = k.contents.log begin (now + 1) block (logged history job.job.terms.ranges begin (now + 1)) (let e : now + 1 < 18446744073709551616 = omega arith in e) (cut_writable k block begin (now + 1) low history job.job.terms.ranges b r l a);
 }
 
-pub cut_touches : (s : Settings) (w : State) (found : Found) (luck : Luck) → slice_get w.jobs found.place ≡ Some found.job → Touches s.pace w (cut_log s w luck found)
-cut_touches s w found luck at = go (nat_lt w.time found.job.hand.next)
+pub cut_touches : (s : Settings) (w : State) (found : FoundBackup) (luck : Luck) → slice_get w.jobs found.place ≡ Some (types.Backup found.backup) → Touches s.pace w (cut_log s w luck found)
+cut_touches s w found luck at = go (nat_lt w.time found.backup.job.next)
   where
     go : (b : Bool) → Touches s.pace w (cond b (refuses (NothingNew w.time) w) (cut_put s w luck found))
     go true = gone s.pace w _
-    go false = putting_touches s.pace w found.place found.job (with_cut w found.job) (cut_name s w found.job) (cut_bytes s w found.job) luck at (record { tag = refl; side = refl; container = refl; ranges = refl })
+    go false = putting_touches s.pace w found.place found.backup (with_cut w found.backup) (cut_name s w found.backup) (cut_bytes s w found.backup) luck at refl
 
 -- a name of another kind than a range file's is fresh
 fresh_log : (name : Bytes) (tickets begin end ticket block : ℕ) → name_of name ≡ Log begin end ticket block → IsFresh tickets name
 fresh_log name tickets begin end ticket block n s v t b e d = let q = sym n ∙ e in cc
 
-cut_order : (k : Known) (p : Workload) (w : State) (place : ℕ) (job : Job) → Sound p w → slice_get w.jobs place ≡ Some job → job.hand.aborted ≡ false → job.hand.next ≤ w.time → w.tickets ≤ most_version → IsOrder p w place job (with_cut w job).hand (cut_name p.settings w job) (cut_bytes p.settings w job)
+cut_order : (k : Known) (p : Workload) (w : State) (place : ℕ) (job : Backup) → Sound p w → slice_get w.jobs place ≡ Some (types.Backup job) → has_ended job.job.state ≡ false → job.job.next ≤ w.time → w.tickets ≤ most_version → IsOrder p w place job (with_cut w job).job (cut_name p.settings w job) (cut_bytes p.settings w job)
 cut_order k p w place job h at running n t =
-    let j = h.jobs.each place job at in
+    let j = h.jobs.each place (types.Backup job) at in
     let block : is_block p.settings.block ≡ true = p.settings.block_listed in
     let bound : w.time ≤ most_version = h.clock.bound in
-    let name : name_of (cut_name p.settings w job) ≡ Log job.hand.next (w.time + 1) w.tickets p.settings.block = named k (log_name job.hand w.time w.tickets p.settings.block) (log_spelled job.hand.next (w.time + 1) w.tickets p.settings.block (omega arith) (omega arith) t block) in
-    let honest = cut_honest k p.settings.block w.time job.hand.next job.hand.begin (history_on job.side w) job (cut_name p.settings w job) block bound (h.databases.histories job.side).rising j.begun (j.logged running) in
+    let name : name_of (cut_name p.settings w job) ≡ Log job.job.next (w.time + 1) w.tickets p.settings.block = named k (log_name job.job w.time w.tickets p.settings.block) (log_spelled job.job.next (w.time + 1) w.tickets p.settings.block (omega arith) (omega arith) t block) in
+    let honest = cut_honest k p.settings.block w.time job.job.next job.job.begin (history_on job.side w) job (cut_name p.settings w job) block bound (h.databases.histories job.side).rising j.begun (j.logged running) in
     record {
-      fresh = fresh_log (cut_name p.settings w job) w.tickets job.hand.next (w.time + 1) w.tickets p.settings.block name;
+      terms = refl;
+      fresh = fresh_log (cut_name p.settings w job) w.tickets job.job.next (w.time + 1) w.tickets p.settings.block name;
       good = λ files e. record {
         honest = λ st. subst (IsHonestFile file_grammars (source_of p.settings.block w.time (history_on job.side w) job) st.honest.folder (cut_name p.settings w job) (cut_bytes p.settings w job)) (sym name) honest;
-        lists = nothing_listed (Log job.hand.next (w.time + 1) w.tickets p.settings.block) (cut_bytes p.settings w job) (cut_name p.settings w job) w.tickets name refl;
+        lists = nothing_listed (Log job.job.next (w.time + 1) w.tickets p.settings.block) (cut_bytes p.settings w job) (cut_name p.settings w job) w.tickets name refl;
       };
       after = cut_sound p.settings.block w.time (w.tickets + 1) (history_on job.side w) job (job_grown p.settings.block w.time w.time w.tickets (w.tickets + 1) (history_on job.side w) (history_on job.side w) job (same_time w.time) (later_tickets w.tickets) j.logged j) n;
       stored = λ files there st. record { honest = st.honest; there = st.there; listed = st.listed };
     }
 
-pub cut_keeps : (k : Known) (p : Workload) (w : State) (luck : Luck) (found : Found) → Sound p w → slice_get w.jobs found.place ≡ Some found.job → found.job.hand.aborted ≡ false → Sound p (cut_log p.settings w luck found).state
-cut_keeps k p w luck found h at running = go (nat_lt w.time found.job.hand.next) refl
+pub cut_keeps : (k : Known) (p : Workload) (w : State) (luck : Luck) (found : FoundBackup) → Sound p w → slice_get w.jobs found.place ≡ Some (types.Backup found.backup) → has_ended found.backup.job.state ≡ false → Sound p (cut_log p.settings w luck found).state
+cut_keeps k p w luck found h at running = go (nat_lt w.time found.backup.job.next) refl
   where
-    go : (b : Bool) → nat_lt w.time found.job.hand.next ≡ b → Sound p (cond b (refuses (NothingNew w.time) w) (cut_put p.settings w luck found)).state
+    go : (b : Bool) → nat_lt w.time found.backup.job.next ≡ b → Sound p (cond b (refuses (NothingNew w.time) w) (cut_put p.settings w luck found)).state
     go true e = sound_gone p w h
-    go false e = putting_keeps k p w found.place found.job (with_cut w found.job).hand (cut_name p.settings w found.job) (cut_bytes p.settings w found.job) luck h at (cut_order k p w found.place found.job h at running (ltb-false w.time found.job.hand.next e))
+    go false e = putting_keeps k p w found.place found.backup (with_cut w found.backup).job (cut_name p.settings w found.backup) (cut_bytes p.settings w found.backup) luck h at (cut_order k p w found.place found.backup h at running (ltb-false w.time found.backup.job.next e))

@@ -6,7 +6,9 @@ use Rattle.fb_bytes.specs.Bytes.{Bytes}
 use Rattle.container_view.specs.Files.{whole_name}
 use Rattle.workload_text.specs.declared.Workload.{Workload}
 use Rattle.cluster_core.specs.declared.event.StepFault.TheVariants.{NoMemory}
-use Rattle.cluster_core.specs.Jobs.{Job}
+use Rattle.cluster_core.specs.declared.job.Job.TheVariants as types
+use Rattle.cluster_core.specs.Backups.{Backup}
+use Rattle.cluster_core.specs.Jobs.{terms_of}
 use Rattle.cluster_core.specs.State.{State, history_on, with_job, with_put}
 use Rattle.cluster_core.specs.Moves.{Luck, Fine, FailsOld, FailsNew, Starved, moved}
 use Rattle.cluster_core.specs.commands.Shared.{puts, putting}
@@ -23,37 +25,38 @@ use Rattle.file_names.specs.Reading.{name_of}
 use Rattle.container_view.specs.Contents.{file_grammars}
 use Rattle.container_view.specs.Honest.{listed_by}
 use Rattle.database.specs.Commits.{most_version}
-use Rattle.backup_core.specs.Hand.{BackupJob}
+use Rattle.backup_core.specs.Backups.{BackupJob}
 use Rattle.cluster_core.specs.declared.event.StepFault.TheVariants.{NoMemory}
-use Rattle.cluster_core.specs.Jobs.{Job}
+use Rattle.cluster_core.specs.declared.job.Job.TheVariants as types
+use Rattle.cluster_core.specs.Backups.{Backup}
+use Rattle.cluster_core.specs.Jobs.{terms_of}
 use Rattle.cluster_core.specs.State.{State, history_on, with_job, with_put}
 use Rattle.cluster_core.specs.Moves.{Luck, Fine, FailsOld, FailsNew, Starved, moved}
 use Rattle.cluster_core.specs.commands.Shared.{puts, putting}
-use Rattle.cluster_core.specs.Sound.{IsDrawn, IsJobSound, IsStored, Sound}
+use Rattle.cluster_core.specs.Sound.{IsDrawn, BackupSound, IsStored, Sound}
 use Rattle.cluster_core.proofs.Known.{Known}
 use Rattle.cluster_core.proofs.Puts.{IsFresh}
 use Rattle.cluster_core.proofs.Frames.{sound_gone, sound_drawn, IsGood, sound_filed, put_there, sound_changed}
 use Rattle.std.specs.Prelude.{◌≡◌, ℕ, ◌≤◌, Bool, false, List, Some, None, slice_get, refl}
 use Rattle.std.proofs.Common.{ap, sym, ◌∙◌}
-use Rattle.backup_core.specs.Hand.{BackupJob}
+use Rattle.backup_core.specs.Backups.{BackupJob}
 use Rattle.cluster_core.specs.declared.change.Change.{Change}
 use Rattle.cluster_core.specs.declared.plan.Filing.{Filing}
-use Rattle.cluster_core.specs.Jobs.{Job}
+use Rattle.cluster_core.specs.declared.job.Job.TheVariants as types
+use Rattle.cluster_core.specs.Backups.{Backup}
+use Rattle.cluster_core.specs.Jobs.{terms_of}
 use Rattle.cluster_core.specs.Moves.{Luck}
 use Rattle.cluster_core.specs.State.{State, history_on}
 use Rattle.cluster_core.specs.Sound.{Sound}
 use Rattle.cluster_core.proofs.Touching.{Touches, same}
 
-pub record IsNextJob (old new : Job) : Type 0 where
-  pub tag : new.tag ≡ old.tag
-  pub side : new.side ≡ old.side
-  pub container : new.container ≡ old.container
-  pub ranges : new.hand.map.ranges ≡ old.hand.map.ranges
+abbrev pub IsNextJob : Backup → Backup → Type 0
+IsNextJob old new = terms_of (types.Backup new) ≡ terms_of (types.Backup old)
 
-pub next_jobs : (w : State) (place : ℕ) (old new : Job) → slice_get w.jobs place ≡ Some old → IsNextJob old new → IsJobChanged w.jobs (with_job place new w).jobs
-next_jobs w place old new at n = record { place = place; before = old; after = new; found = at; tag = n.tag; side = n.side; container = n.container; ranges = n.ranges; is = refl }
+pub next_jobs : (w : State) (place : ℕ) (old new : Backup) → slice_get w.jobs place ≡ Some (types.Backup old) → IsNextJob old new → IsJobChanged w.jobs (with_job place (types.Backup new) w).jobs
+next_jobs w place old new at n = record { place = place; before = types.Backup old; after = types.Backup new; found = at; terms = n; is = refl }
 
-puts_touches : (pace : ℕ) (w : State) (place : ℕ) (old new : Job) (name bytes : Bytes) (luck : Luck) → slice_get w.jobs place ≡ Some old → IsNextJob old new → Touches pace w (puts w (whole_name old.container name) bytes (with_job place new w) luck)
+puts_touches : (pace : ℕ) (w : State) (place : ℕ) (old new : Backup) (name bytes : Bytes) (luck : Luck) → slice_get w.jobs place ≡ Some (types.Backup old) → IsNextJob old new → Touches pace w (puts w (whole_name old.container name) bytes (with_job place (types.Backup new) w) luck)
 puts_touches pace w place old new name bytes (Fine said) at n = record {
   starved = λ e. cc;
   since = omega arith;
@@ -61,7 +64,7 @@ puts_touches pace w place old new name bytes (Fine said) at n = record {
   src = inl refl;
   dst = inl refl;
   jobs = inr (inl (next_jobs w place old new at n));
-  files = inr (record { place = place; job = old; found = at; name = name; bytes = bytes; is = refl });
+  files = inr (record { place = place; backup = old; found = at; name = name; bytes = bytes; is = refl });
 }
 puts_touches pace w place old new name bytes FailsOld at n = same pace w _
 puts_touches pace w place old new name bytes FailsNew at n = record {
@@ -71,39 +74,40 @@ puts_touches pace w place old new name bytes FailsNew at n = record {
   src = inl refl;
   dst = inl refl;
   jobs = inl refl;
-  files = inr (record { place = place; job = old; found = at; name = name; bytes = bytes; is = refl });
+  files = inr (record { place = place; backup = old; found = at; name = name; bytes = bytes; is = refl });
 }
 puts_touches pace w place old new name bytes Starved at n = same pace w _
 
-pub putting_touches : (pace : ℕ) (w : State) (place : ℕ) (old new : Job) (name bytes : Bytes) (luck : Luck) → slice_get w.jobs place ≡ Some old → IsNextJob old new → Touches pace w (putting w (whole_name old.container name) bytes (with_job place new w) luck)
+pub putting_touches : (pace : ℕ) (w : State) (place : ℕ) (old new : Backup) (name bytes : Bytes) (luck : Luck) → slice_get w.jobs place ≡ Some (types.Backup old) → IsNextJob old new → Touches pace w (putting w (whole_name old.container name) bytes (with_job place (types.Backup new) w) luck)
 putting_touches pace w place old new name bytes luck at n = go _
   where
-    go : (b : Bool) → Touches pace w (cond b (moved (Err NoMemory) w) (puts w (whole_name old.container name) bytes (with_job place new w) luck))
+    go : (b : Bool) → Touches pace w (cond b (moved (Err NoMemory) w) (puts w (whole_name old.container name) bytes (with_job place (types.Backup new) w) luck))
     go true = same pace w _
     go false = puts_touches pace w place old new name bytes luck at n
 
 -- what the command's put owes: its file is good, and once it is there and its ticket is used up, so is the job after it
-pub record IsOrder (p : Workload) (w : State) (place : ℕ) (job : Job) (hand : BackupJob) (name bytes : Bytes) : Type 0 where
+pub record IsOrder (p : Workload) (w : State) (place : ℕ) (job : Backup) (hand : BackupJob) (name bytes : Bytes) : Type 0 where
   pub fresh : IsFresh w.tickets name
+  pub terms : hand.terms ≡ job.job.terms
   pub good : (files : List File) → w.files ≡ Some files → IsGood p w job name bytes files
-  pub after : IsJobSound p.settings.block w.time (w.tickets + 1) (history_on job.side w) (record job { hand = hand })
-  pub stored : (files : List File) → file_of files (whole_name job.container name) ≡ Some bytes → IsStored p.settings.block w.time (w.tickets + 1) (history_on job.side w) files job → IsStored p.settings.block w.time (w.tickets + 1) (history_on job.side w) files (record job { hand = hand })
+  pub after : BackupSound p.settings.block w.time (w.tickets + 1) (history_on job.side w) (record job { job = hand })
+  pub stored : (files : List File) → file_of files (whole_name job.container name) ≡ Some bytes → IsStored p.settings.block w.time (w.tickets + 1) (history_on job.side w) files job → IsStored p.settings.block w.time (w.tickets + 1) (history_on job.side w) files (record job { job = hand })
 
-puts_keeps : (k : Known) (p : Workload) (w : State) (place : ℕ) (job : Job) (hand : BackupJob) (name bytes : Bytes) (luck : Luck) → Sound p w → slice_get w.jobs place ≡ Some job → w.tickets ≤ most_version → IsOrder p w place job hand name bytes → Sound p (puts w (whole_name job.container name) bytes (with_job place (record job { hand = hand }) w) luck).state
+puts_keeps : (k : Known) (p : Workload) (w : State) (place : ℕ) (job : Backup) (hand : BackupJob) (name bytes : Bytes) (luck : Luck) → Sound p w → slice_get w.jobs place ≡ Some (types.Backup job) → w.tickets ≤ most_version → IsOrder p w place job hand name bytes → Sound p (puts w (whole_name job.container name) bytes (with_job place (types.Backup (record job { job = hand })) w) luck).state
 puts_keeps k p w place job hand name bytes (Fine said) h at t o =
     let filed = sound_filed k p w place job name bytes h at o.fresh o.good in
     let drawn = sound_drawn k p (record w { files = with_put (whole_name job.container name) bytes w.files }) t filed in
-    let changed = sound_changed p (record w { files = with_put (whole_name job.container name) bytes w.files; tickets = w.tickets + 1 }) place job hand drawn at o.after
-    (λ files e. o.stored files (put_there k (whole_name job.container name) bytes w.files files e) ((drawn.containers files e).each place job at)) in
-    sound_gone p (with_job place (record job { hand = hand }) (record w { files = with_put (whole_name job.container name) bytes w.files; tickets = w.tickets + 1 })) changed
+    let changed = sound_changed p (record w { files = with_put (whole_name job.container name) bytes w.files; tickets = w.tickets + 1 }) place job hand drawn at o.terms o.after
+    (λ files e. o.stored files (put_there k (whole_name job.container name) bytes w.files files e) ((drawn.containers files e).each place (types.Backup job) at)) in
+    sound_gone p (with_job place (types.Backup (record job { job = hand })) (record w { files = with_put (whole_name job.container name) bytes w.files; tickets = w.tickets + 1 })) changed
 puts_keeps k p w place job hand name bytes FailsOld h at t o = h
 puts_keeps k p w place job hand name bytes FailsNew h at t o = sound_filed k p w place job name bytes h at o.fresh o.good
 puts_keeps k p w place job hand name bytes Starved h at t o = h
 
-pub putting_keeps : (k : Known) (p : Workload) (w : State) (place : ℕ) (job : Job) (hand : BackupJob) (name bytes : Bytes) (luck : Luck) → Sound p w → slice_get w.jobs place ≡ Some job → (w.tickets ≤ most_version → IsOrder p w place job hand name bytes) → Sound p (putting w (whole_name job.container name) bytes (with_job place (record job { hand = hand }) w) luck).state
+pub putting_keeps : (k : Known) (p : Workload) (w : State) (place : ℕ) (job : Backup) (hand : BackupJob) (name bytes : Bytes) (luck : Luck) → Sound p w → slice_get w.jobs place ≡ Some (types.Backup job) → (w.tickets ≤ most_version → IsOrder p w place job hand name bytes) → Sound p (putting w (whole_name job.container name) bytes (with_job place (types.Backup (record job { job = hand })) w) luck).state
 putting_keeps k p w place job hand name bytes luck h at o = go (nat_lt most_version w.tickets) refl
   where
-    go : (b : Bool) → nat_lt most_version w.tickets ≡ b → Sound p (cond b (moved (Err NoMemory) w) (puts w (whole_name job.container name) bytes (with_job place (record job { hand = hand }) w) luck)).state
+    go : (b : Bool) → nat_lt most_version w.tickets ≡ b → Sound p (cond b (moved (Err NoMemory) w) (puts w (whole_name job.container name) bytes (with_job place (types.Backup (record job { job = hand })) w) luck)).state
     go true e = h
     go false e = let t = ltb-false most_version w.tickets e in puts_keeps k p w place job hand name bytes luck h at t (o t)
 
@@ -117,5 +121,5 @@ pub same_time : (n : ℕ) → n ≤ n
 same_time n = omega arith
 
 -- the file of a job that changes by it
-abbrev pub filing_of : ℕ → Job → Change → Bytes → Bytes → Filing
+abbrev pub filing_of : ℕ → Backup → Change → Bytes → Bytes → Filing
 filing_of place job change name bytes = record { place = place; change = change; whole = whole_name job.container name; bytes = bytes }

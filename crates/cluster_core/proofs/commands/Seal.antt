@@ -1,4 +1,6 @@
 -- The command seal.
+use Rattle.cluster_core.specs.declared.job.Job.TheVariants as types
+use Rattle.cluster_core.specs.Backups.{Backup}
 use Rattle.std.specs.Prelude.{◌≡◌, ℕ, ◌+◌, ◌≤◌, Bool, true, false, not, List, [], ◌∷◌, None, refl}
 use Rattle.std.specs.List.{AllByRecursion}
 use Rattle.std.proofs.Common.{ap, sym, ◌∙◌, arith, subst}
@@ -10,11 +12,11 @@ use Rattle.file_names.specs.Reading.{name_of}
 use Rattle.snapshot_plan.specs.declared.Noted.{Noted}
 use Rattle.snapshot_plan.specs.Noted.{pieces_of}
 use Rattle.snapshot_plan.specs.Pieces.{IsFirstOrNone}
-use Rattle.backup_core.specs.Hand.{sealed}
-use Rattle.cluster_core.specs.Jobs.{Job}
-use Rattle.cluster_core.specs.Sound.{IsNoted, IsJobSound}
+use Rattle.backup_core.specs.Backups.{map_of, sealed}
+use Rattle.cluster_core.specs.Jobs.{Job, with_backup}
+use Rattle.cluster_core.specs.Sound.{IsNoted, BackupSound}
 use Rattle.cluster_core.proofs.Known.{Known}
-use Rattle.std.specs.Prelude.{Err, nat_lt, ◌≡◌, ℕ, ◌+◌, ◌<◌, ◌≤◌, Bool, true, false, not, cond, List, [], ◌∷◌, length, Option, Some, None, ◌⊎◌, slice_get, slice_index_or, option_map, refl}
+use Rattle.std.specs.Prelude.{Err, nat_lt, ◌≡◌, ℕ, ◌+◌, ◌<◌, ◌≤◌, Bool, true, false, not, cond, List, [], ◌∷◌, length, Option, Some, None, ◌⊎◌, slice_get, option_map, refl}
 use Rattle.std.proofs.Common.{ap, sym, ◌∙◌, arith, subst, inl, inr}
 use Rattle.std.proofs.lemmas.Bool.{le-ltb}
 use Rattle.fb_bytes.specs.Bytes.{Bytes}
@@ -27,19 +29,18 @@ use Rattle.snapshot_plan.specs.Noted.{gap, manifest_of, most_bytes}
 use Rattle.workload_text.specs.declared.Settings.{Settings}
 use Rattle.workload_text.specs.declared.Workload.{Workload}
 use Rattle.database.specs.Commits.{most_version}
-use Rattle.backup_core.specs.Hand.{BackupJob, text_of}
+use Rattle.backup_core.specs.Backups.{BackupJob, text_of}
 use Rattle.cluster_core.specs.declared.change.Change.TheVariants as changes
 use Rattle.cluster_core.specs.inner.Plans.{files}
 use Rattle.cluster_core.specs.declared.plan.Filing.{Filing}
-use Rattle.cluster_core.specs.declared.plan.Plan.TheVariants.{Put}
+use Rattle.cluster_core.specs.declared.plan.Plan.TheVariants.{Put, Refuse}
 use Rattle.cluster_core.specs.declared.refusal.Refusal.TheVariants.{Untiled}
-use Rattle.cluster_core.specs.Jobs.{Job}
+use Rattle.cluster_core.specs.Jobs.{Job, with_backup}
 use Rattle.cluster_core.specs.State.{State, history_on}
 use Rattle.cluster_core.specs.declared.event.StepFault.TheVariants.{NoMemory}
 use Rattle.cluster_core.specs.Moves.{moved, Luck}
-use Rattle.cluster_core.specs.commands.Shared.{refuses}
 use Rattle.cluster_core.specs.commands.Seal.{seal_name, seal_fitting, snapshot_bytes, seal_tested, seal_job}
-use Rattle.cluster_core.specs.inner.Plans.{planned, IsSafe}
+use Rattle.cluster_core.specs.inner.Plans.{planned, IsPlanAt, IsSafe}
 use Rattle.cluster_core.specs.Sound.{IsNoted, Sound}
 use Rattle.cluster_core.proofs.Entries.{All-weaker}
 use Rattle.cluster_core.proofs.Relied.{known}
@@ -48,10 +49,9 @@ use Rattle.std.specs.Prelude.{◌≤◌, ◌⊎◌}
 use Rattle.std.proofs.Common.{subst, arith, inl, inr}
 use Rattle.fb_bytes.specs.Options.{◌>>=◌}
 use Rattle.cluster_core.specs.declared.event.StepFault.TheVariants.{NoMemory}
-use Rattle.cluster_core.specs.Jobs.{Job, Found}
+use Rattle.cluster_core.specs.Backups.{FoundBackup}
 use Rattle.cluster_core.specs.State.{State, history_on}
 use Rattle.cluster_core.specs.Moves.{Luck, moved}
-use Rattle.cluster_core.specs.commands.Shared.{refuses}
 use Rattle.cluster_core.specs.commands.Seal.{seal_name, with_seal, seal_fitting, snapshot_bytes, seal_tested, seal_job}
 use Rattle.manifests.specs.Grammar.{manifest_text}
 use Rattle.snapshot_plan.specs.Noted.{manifest_of, most_bytes}
@@ -64,12 +64,11 @@ use Rattle.manifests.specs.Grammar.{name_for, manifest_text}
 use Rattle.container_view.specs.Contents.{file_grammars}
 use Rattle.container_view.specs.Honest.{IsHonestFile, listed_by}
 use Rattle.snapshot_plan.specs.Noted.{pieces_of, gap, manifest_of, most_bytes}
-use Rattle.backup_core.specs.Hand.{BackupJob, manifest_name}
-use Rattle.cluster_core.specs.Jobs.{Job, Found}
+use Rattle.backup_core.specs.Backups.{BackupJob, manifest_name}
+use Rattle.cluster_core.specs.Backups.{FoundBackup}
 use Rattle.cluster_core.specs.State.{State, history_on}
 use Rattle.cluster_core.specs.Moves.{Luck, moved}
-use Rattle.cluster_core.specs.commands.Shared.{refuses}
-use Rattle.cluster_core.specs.Sound.{IsNoted, IsDrawn, IsThere, IsJobSound, IsStored, Sound, source_of}
+use Rattle.cluster_core.specs.Sound.{IsNoted, IsDrawn, IsThere, BackupSound, IsStored, Sound, source_of}
 use Rattle.cluster_core.proofs.Named.{named, manifest_spelled}
 use Rattle.cluster_core.proofs.Grown.{job_grown}
 use Rattle.cluster_core.proofs.Puts.{IsFresh}
@@ -85,13 +84,13 @@ use Rattle.container_view.specs.Honest.{listed_by}
 use Rattle.container_view.specs.Law.{IsHonestManifest}
 use Rattle.snapshot_plan.specs.Noted.{pieces_of, gap, manifest_of}
 use Rattle.snapshot_plan.specs.Pieces.{ArePieces, gap_in, IsFirstOrNone}
-use Rattle.cluster_core.specs.Sound.{IsNoted, IsThere, IsDrawn, IsJobSound, IsStored, source_of}
+use Rattle.cluster_core.specs.Sound.{IsNoted, IsThere, IsDrawn, BackupSound, IsStored, source_of}
 use Rattle.cluster_core.proofs.Known.{Known, IsRead}
-use Rattle.cluster_core.proofs.commands.Jobs.{same_job}
+use Rattle.cluster_core.proofs.commands.Jobs.{some_is as jobs_same}
 use Rattle.cluster_core.proofs.Touching.{Touches, same, gone}
 use Rattle.cluster_core.proofs.commands.Puts.{putting_touches, IsOrder, putting_keeps, later_tickets, same_time}
 
-pub sealed_sound : (block now tickets : ℕ) (history : List Entry) (job : Job) → IsJobSound block now tickets history job → IsJobSound block now tickets history (record job { hand = sealed job.hand })
+pub sealed_sound : (block now tickets : ℕ) (history : List Entry) (job : Backup) → BackupSound block now tickets history job → BackupSound block now tickets history (record job { job = sealed job.job })
 sealed_sound block now tickets history job h = record {
   named = h.named;
   ranges = h.ranges;
@@ -139,57 +138,58 @@ some_noted (range ∷ job) (n ∷ noted) l s t = omega arith
 version_noted : (block now tickets : ℕ) (noted : Noted) → IsNoted block now tickets noted → version_of noted.file.name ≡ Some noted.file.version
 version_noted block now tickets noted h = ap version_in h.name
 
-pub sealed_whole : (k : Known) (block now tickets : ℕ) (history : List Entry) (job : Job) → IsJobSound block now tickets history job → 0 < length job.hand.map.noted → IsWhole (manifest_of job.hand.map.noted)
-sealed_whole k block now tickets history job h some = k.manifests.whole job.hand.map.noted some (All-weaker (IsNoted block now tickets) (λ n. version_of n.file.name ≡ Some n.file.version) job.hand.map.noted (version_noted block now tickets) h.noted) h.distinct
+pub sealed_whole : (k : Known) (block now tickets : ℕ) (history : List Entry) (job : Backup) → BackupSound block now tickets history job → 0 < length job.job.noted → IsWhole (manifest_of job.job.noted)
+sealed_whole k block now tickets history job h some = k.manifests.whole job.job.noted some (All-weaker (IsNoted block now tickets) (λ n. version_of n.file.name ≡ Some n.file.version) job.job.noted (version_noted block now tickets) h.noted) h.distinct
 
-pub sealable : (p : Workload) (w : State) (place : ℕ) (job : Job) (m : Manifest) → Sound p w → slice_get w.jobs place ≡ Some job → gap job.hand.map ≡ None → m ≡ manifest_of job.hand.map.noted → IsSealable m
+pub sealable : (p : Workload) (w : State) (place : ℕ) (job : Backup) (m : Manifest) → Sound p w → slice_get w.jobs place ≡ Some (types.Backup job) → gap (map_of job.job) ≡ None → m ≡ manifest_of job.job.noted → IsSealable m
 sealable p w place job m h at g e =
-    let j = h.jobs.each place job at in
-    let tiled = tiles known job.hand.map.ranges job.hand.map.noted j.ranges.separate j.pieces j.inside g in
-    let some = some_noted job.hand.map.ranges job.hand.map.noted j.some j.ranges.separate tiled in
+    let j = h.jobs.each place (types.Backup job) at in
+    let tiled = tiles known job.job.terms.ranges job.job.noted j.ranges.separate j.pieces j.inside g in
+    let some = some_noted job.job.terms.ranges job.job.noted j.some j.ranges.separate tiled in
     subst IsSealable (sym e) (record {
       whole = sealed_whole known p.settings.block w.time w.tickets (history_on job.side w) job j some;
-      order = known.manifests.order job.hand.map.noted;
-      end = known.manifests.end job.hand.map.noted most_version (All-weaker (IsNoted p.settings.block w.time w.tickets) (λ n. n.file.version ≤ most_version) job.hand.map.noted (λ n q. let v = q.past in let b = h.clock.bound in omega arith) j.noted);
+      order = known.manifests.order job.job.noted;
+      end = known.manifests.end job.job.noted most_version (All-weaker (IsNoted p.settings.block w.time w.tickets) (λ n. n.file.version ≤ most_version) job.job.noted (λ n q. let v = q.past in let b = h.clock.bound in omega arith) j.noted);
     })
 
 untiled : (o : Option Bytes) (fault : MapFault) (key : Bytes) → fault ≡ faults.Untiled key → (fault ≡ faults.NoMemory) ⊎ (option_map (λ (k : Bytes). faults.Untiled k) o ≡ Some fault) → o ≡ Some key
 untiled None fault key f e = elim e [ inl n ↦ absurd (let q = sym f ∙ n in cc) | inr n ↦ cc ]
 untiled (Some k) fault key f e = elim e [ inl n ↦ absurd (let q = sym f ∙ n in cc) | inr n ↦ let q : Some (faults.Untiled k) ≡ Some (faults.Untiled key) = n ∙ ap (λ (x : MapFault). Some x) f in (let r : k ≡ key = cc in ap (λ (x : Bytes). Some x) r) ]
 
-pub seal_refused : (w : State) (place : ℕ) (found job : Job) (hand : BackupJob) (fault : MapFault) (key : Bytes) → found ≡ slice_index_or w.jobs place found → hand ≡ found.hand → (fault ≡ faults.NoMemory) ⊎ (option_map (λ (k : Bytes). faults.Untiled k) (gap hand.map) ≡ Some fault) → fault ≡ faults.Untiled key → slice_get w.jobs place ≡ Some job → (luck : Luck) → seal_job w luck (record { place = place; job = job }) ≡ refuses (Untiled key) w
-seal_refused w place found job hand fault key e h r f at luck =
-    ap (seal_tested w (record { place = place; job = job }) luck)
-    (ap (λ (x : Job). gap x.hand.map) (sym (same_job w.jobs place job found at e)) ∙ ap (λ (x : BackupJob). gap x.map) (sym h) ∙ untiled (gap hand.map) fault key f r)
+pub seal_refused : (s : Settings) (w : State) (place : ℕ) (backup : Backup) (job : Job) (kept : BackupJob) (fault : MapFault) (key : Bytes) → slice_get w.jobs place ≡ Some (types.Backup backup) → kept ≡ backup.job → (fault ≡ faults.NoMemory) ⊎ (option_map (λ (k : Bytes). faults.Untiled k) (gap (map_of kept)) ≡ Some fault) → fault ≡ faults.Untiled key → slice_get w.jobs place ≡ Some job → IsPlanAt s w (seal_job w) (record { place = place; job = job }) (Refuse (Untiled key))
+seal_refused s w place backup job kept fault key e h r f at luck =
+    ap (λ (x : Job). with_backup (seal_job w luck) place x) (jobs_same job (types.Backup backup) (sym at ∙ e))
+    ∙ ap (seal_tested w (record { place = place; backup = backup }) luck)
+    (ap (λ (x : BackupJob). gap (map_of x)) (sym h) ∙ untiled (gap (map_of kept)) fault key f r)
 
-abbrev pub seal_filing : State → ℕ → Job → Filing
-seal_filing w place job = record { place = place; change = changes.Seal; whole = whole_name job.container (seal_name w job); bytes = manifest_text (manifest_of job.hand.map.noted) }
+abbrev pub seal_filing : State → ℕ → Backup → Filing
+seal_filing w place job = record { place = place; change = changes.Seal; whole = whole_name job.container (seal_name w job); bytes = manifest_text (manifest_of job.job.noted) }
 
-pub seal_filed : (w : State) (place : ℕ) (job : Job) (m : Manifest) (name bytes : Bytes) → m ≡ manifest_of job.hand.map.noted → name ≡ text_of (name_for m w.tickets) → bytes ≡ manifest_text m → record { place = place; change = changes.Seal; whole = whole_name job.container name; bytes = bytes } ≡ seal_filing w place job
+pub seal_filed : (w : State) (place : ℕ) (job : Backup) (m : Manifest) (name bytes : Bytes) → m ≡ manifest_of job.job.noted → name ≡ text_of (name_for m w.tickets) → bytes ≡ manifest_text m → record { place = place; change = changes.Seal; whole = whole_name job.container name; bytes = bytes } ≡ seal_filing w place job
 seal_filed w place job m name bytes e n b =
     ap {A = Bytes} {B = Filing} (λ (x : Bytes). record { place = place; change = changes.Seal; whole = whole_name job.container x; bytes = bytes }) (n ∙ ap (λ (x : Manifest). text_of (name_for x w.tickets)) e)
     ∙ ap {A = Bytes} {B = Filing} (λ (x : Bytes). record { place = place; change = changes.Seal; whole = whole_name job.container (seal_name w job); bytes = x }) (b ∙ ap manifest_text e)
 
-pub seal_planned : (s : Settings) (w : State) (place : ℕ) (found job : Job) (filing : Filing) → found ≡ slice_index_or w.jobs place found → gap found.hand.map ≡ None → snapshot_bytes found ≤ most_bytes → filing ≡ seal_filing w place found → slice_get w.jobs place ≡ Some job → (luck : Luck) → seal_job w luck (record { place = place; job = job }) ≡ planned s w luck (Put filing)
-seal_planned s w place found job filing e g b f at luck =
-    ap (seal_tested w (record { place = place; job = job }) luck) (ap (λ (x : Job). gap x.hand.map) (sym (same_job w.jobs place job found at e)) ∙ g)
-    ∙ ap (λ (t : Bool). cond t (moved (Err NoMemory) w) (seal_fitting w (record { place = place; job = job }) luck)) (ap (λ (x : Job). nat_lt most_bytes (snapshot_bytes x)) (sym (same_job w.jobs place job found at e)) ∙ le-ltb most_bytes (snapshot_bytes found) b)
-    ∙ sym (ap (files w (seal_filing w place job) luck) at)
-    ∙ ap (λ (x : Job). planned s w luck (Put (seal_filing w place x))) (sym (same_job w.jobs place job found at e))
+pub seal_planned : (s : Settings) (w : State) (place : ℕ) (backup : Backup) (job : Job) (filing : Filing) → slice_get w.jobs place ≡ Some (types.Backup backup) → gap (map_of backup.job) ≡ None → snapshot_bytes backup ≤ most_bytes → filing ≡ seal_filing w place backup → slice_get w.jobs place ≡ Some job → IsPlanAt s w (seal_job w) (record { place = place; job = job }) (Put filing)
+seal_planned s w place backup job filing e g b f at luck =
+    ap (λ (x : Job). with_backup (seal_job w luck) place x) (jobs_same job (types.Backup backup) (sym at ∙ e))
+    ∙ ap (seal_tested w (record { place = place; backup = backup }) luck) g
+    ∙ ap (λ (t : Bool). cond t (moved (Err NoMemory) w) (seal_fitting w (record { place = place; backup = backup }) luck)) (le-ltb most_bytes (snapshot_bytes backup) b)
+    ∙ sym (ap (files w (seal_filing w place backup) luck) e)
     ∙ ap (λ (x : Filing). planned s w luck (Put x)) (sym f)
 
-pub seal_safe : (w : State) (place : ℕ) (found job : Job) (filing : Filing) → found ≡ slice_index_or w.jobs place found → slice_get w.jobs place ≡ Some job → filing ≡ seal_filing w place found → w.tickets ≤ most_version → IsSafe w (Put filing)
-seal_safe w place found job filing e at f t =
+pub seal_safe : (w : State) (place : ℕ) (backup : Backup) (filing : Filing) → slice_get w.jobs place ≡ Some (types.Backup backup) → filing ≡ seal_filing w place backup → w.tickets ≤ most_version → IsSafe w (Put filing)
+seal_safe w place backup filing e f t =
     subst (λ (x : Filing). IsSafe w (Put x)) (sym f)
-    (record { tickets = t; can = tt; job = job; at = at })
+    (record { tickets = t; can = tt; job = types.Backup backup; at = e })
 
-pub seal_touches : (pace : ℕ) (w : State) (found : Found) (luck : Luck) (o : Option Bytes) → slice_get w.jobs found.place ≡ Some found.job → Touches pace w (seal_tested w found luck o)
+pub seal_touches : (pace : ℕ) (w : State) (found : FoundBackup) (luck : Luck) (o : Option Bytes) → slice_get w.jobs found.place ≡ Some (types.Backup found.backup) → Touches pace w (seal_tested w found luck o)
 seal_touches pace w found luck (Some key) at = gone pace w _
-seal_touches pace w found luck None at = go (nat_lt most_bytes (snapshot_bytes found.job))
+seal_touches pace w found luck None at = go (nat_lt most_bytes (snapshot_bytes found.backup))
   where
     go : (b : Bool) → Touches pace w (cond b (moved (Err NoMemory) w) (seal_fitting w found luck))
     go true = same pace w _
-    go false = putting_touches pace w found.place found.job (with_seal found.job) (seal_name w found.job) (manifest_text (manifest_of found.job.hand.map.noted)) luck at (record { tag = refl; side = refl; container = refl; ranges = refl })
+    go false = putting_touches pace w found.place found.backup (with_seal found.backup) (seal_name w found.backup) (manifest_text (manifest_of found.backup.job.noted)) luck at refl
 
 fresh_manifest : (name : Bytes) (tickets begin end bytes ticket : ℕ) → name_of name ≡ names.Manifest begin end bytes ticket → IsFresh tickets name
 fresh_manifest name tickets begin end bytes ticket n s v t b e d = let q = sym n ∙ e in cc
@@ -205,56 +205,57 @@ all_read : (k : Known) (block now tickets : ℕ) (container : Bytes) (files : Li
 all_read k block now tickets container files folder [] o f n h = tt
 all_read k block now tickets container files folder (x ∷ xs) o f n h = (is_read k block now tickets container files folder x o f n.0 h.0, all_read k block now tickets container files folder xs o f n.1 h.1)
 
-pub seal_content : (k : Known) (job : Job) (ticket : ℕ) → IsWhole (manifest_of job.hand.map.noted) → (manifest_of job.hand.map.noted).bytes ≤ 9223372036854775807 → file_grammars.manifest (name_for (manifest_of job.hand.map.noted) ticket) (manifest_text (manifest_of job.hand.map.noted)) ≡ Some (manifest_of job.hand.map.noted).files
-seal_content k job ticket w fits = k.contents.manifest (name_for (manifest_of job.hand.map.noted) ticket) (manifest_text (manifest_of job.hand.map.noted)) (manifest_of job.hand.map.noted) (k.manifests.written (manifest_of job.hand.map.noted) ticket w fits)
+pub seal_content : (k : Known) (job : Backup) (ticket : ℕ) → IsWhole (manifest_of job.job.noted) → (manifest_of job.job.noted).bytes ≤ 9223372036854775807 → file_grammars.manifest (name_for (manifest_of job.job.noted) ticket) (manifest_text (manifest_of job.job.noted)) ≡ Some (manifest_of job.job.noted).files
+seal_content k job ticket w fits = k.contents.manifest (name_for (manifest_of job.job.noted) ticket) (manifest_text (manifest_of job.job.noted)) (manifest_of job.job.noted) (k.manifests.written (manifest_of job.job.noted) ticket w fits)
 
-pub seal_honest : (k : Known) (block now tickets ticket : ℕ) (history : List Entry) (files : List File) (job : Job) (name : Bytes) → AreFiles files → IsJobSound block now tickets history job → (st : IsStored block now tickets history files job) → gap job.hand.map ≡ None → (manifest_of job.hand.map.noted).bytes ≤ 9223372036854775807
-    → IsHonestManifest (source_of block now history job) st.honest.folder.ranges (manifest_file file_grammars name (manifest_text (manifest_of job.hand.map.noted)) (name_for (manifest_of job.hand.map.noted) ticket) (manifest_of job.hand.map.noted).begin (manifest_of job.hand.map.noted).end)
+pub seal_honest : (k : Known) (block now tickets ticket : ℕ) (history : List Entry) (files : List File) (job : Backup) (name : Bytes) → AreFiles files → BackupSound block now tickets history job → (st : IsStored block now tickets history files job) → gap (map_of job.job) ≡ None → (manifest_of job.job.noted).bytes ≤ 9223372036854775807
+    → IsHonestManifest (source_of block now history job) st.honest.folder.ranges (manifest_file file_grammars name (manifest_text (manifest_of job.job.noted)) (name_for (manifest_of job.job.noted) ticket) (manifest_of job.job.noted).begin (manifest_of job.job.noted).end)
 seal_honest k block now tickets ticket history files job name o h st g fits =
-    let tiled = tiles k job.hand.map.ranges job.hand.map.noted h.ranges.separate h.pieces h.inside g in
-    let some = some_noted job.hand.map.ranges job.hand.map.noted h.some h.ranges.separate tiled in
-    k.manifests.honest (source_of block now history job) st.honest.folder.ranges job.hand.map.noted _ some
-    (all_read k block now tickets job.container files st.honest.folder job.hand.map.noted o st.honest.decoded h.noted st.there)
+    let tiled = tiles k job.job.terms.ranges job.job.noted h.ranges.separate h.pieces h.inside g in
+    let some = some_noted job.job.terms.ranges job.job.noted h.some h.ranges.separate tiled in
+    k.manifests.honest (source_of block now history job) st.honest.folder.ranges job.job.noted _ some
+    (all_read k block now tickets job.container files st.honest.folder job.job.noted o st.honest.decoded h.noted st.there)
     h.pieces tiled refl refl (seal_content k job ticket (sealed_whole k block now tickets history job h some) fits)
 
 drawn_noted : (block now tickets : ℕ) (noted : Noted) → IsNoted block now tickets noted → IsDrawn tickets noted.file.name
 drawn_noted block now tickets noted h = record { snapshot = h.snapshot; version = noted.file.version; ticket = h.ticket; block = block; read = h.name; drawn = h.drawn }
 
 -- it lists files with drawn tickets
-pub seal_lists : (k : Known) (block now tickets ticket : ℕ) (history : List Entry) (job : Job) → IsJobSound block now tickets history job → 0 < length job.hand.map.noted → (manifest_of job.hand.map.noted).bytes ≤ 9223372036854775807 → (names : List Bytes) → listed_by file_grammars (name_for (manifest_of job.hand.map.noted) ticket) (manifest_text (manifest_of job.hand.map.noted)) ≡ Some names → AllByRecursion (IsDrawn tickets) names
+pub seal_lists : (k : Known) (block now tickets ticket : ℕ) (history : List Entry) (job : Backup) → BackupSound block now tickets history job → 0 < length job.job.noted → (manifest_of job.job.noted).bytes ≤ 9223372036854775807 → (names : List Bytes) → listed_by file_grammars (name_for (manifest_of job.job.noted) ticket) (manifest_text (manifest_of job.job.noted)) ≡ Some names → AllByRecursion (IsDrawn tickets) names
 seal_lists k block now tickets ticket history job h some fits names l =
-    let same : (manifest_of job.hand.map.noted).files ≡ names = some_is (manifest_of job.hand.map.noted).files names (sym (seal_content k job ticket (sealed_whole k block now tickets history job h some) fits) ∙ l) in
-    subst (AllByRecursion (IsDrawn tickets)) same (k.manifests.listed tickets job.hand.map.noted (All-weaker (IsNoted block now tickets) (λ n. IsDrawn tickets n.file.name) job.hand.map.noted (drawn_noted block now tickets) h.noted))
+    let same : (manifest_of job.job.noted).files ≡ names = some_is (manifest_of job.job.noted).files names (sym (seal_content k job ticket (sealed_whole k block now tickets history job h some) fits) ∙ l) in
+    subst (AllByRecursion (IsDrawn tickets)) same (k.manifests.listed tickets job.job.noted (All-weaker (IsNoted block now tickets) (λ n. IsDrawn tickets n.file.name) job.job.noted (drawn_noted block now tickets) h.noted))
   where
     some_is : (a b : List Bytes) → Some a ≡ Some b → a ≡ b
     some_is a b p = cc
 
-seal_order : (k : Known) (p : Workload) (w : State) (place : ℕ) (job : Job) → Sound p w → slice_get w.jobs place ≡ Some job → gap job.hand.map ≡ None → snapshot_bytes job ≤ 9223372036854775807 → w.tickets ≤ most_version → IsOrder p w place job (with_seal job).hand (seal_name w job) (manifest_text (manifest_of job.hand.map.noted))
+seal_order : (k : Known) (p : Workload) (w : State) (place : ℕ) (job : Backup) → Sound p w → slice_get w.jobs place ≡ Some (types.Backup job) → gap (map_of job.job) ≡ None → snapshot_bytes job ≤ 9223372036854775807 → w.tickets ≤ most_version → IsOrder p w place job (with_seal job).job (seal_name w job) (manifest_text (manifest_of job.job.noted))
 seal_order k p w place job h at g fits t =
-    let j = h.jobs.each place job at in
-    let m = manifest_of job.hand.map.noted in
-    let tiled = tiles k job.hand.map.ranges job.hand.map.noted j.ranges.separate j.pieces j.inside g in
-    let some = some_noted job.hand.map.ranges job.hand.map.noted j.some j.ranges.separate tiled in
-    let end : (manifest_of job.hand.map.noted).end ≤ most_version = k.manifests.end job.hand.map.noted most_version (All-weaker (IsNoted p.settings.block w.time w.tickets) (λ n. n.file.version ≤ most_version) job.hand.map.noted (λ n q. let v = q.past in let b = h.clock.bound in omega arith) j.noted) in
-    let name : name_of (seal_name w job) ≡ name_for (manifest_of job.hand.map.noted) w.tickets = named k (manifest_name job.hand w.tickets) (manifest_spelled (manifest_of job.hand.map.noted).begin (manifest_of job.hand.map.noted).end (manifest_of job.hand.map.noted).bytes w.tickets (k.manifests.order job.hand.map.noted) end fits t) in
+    let j = h.jobs.each place (types.Backup job) at in
+    let m = manifest_of job.job.noted in
+    let tiled = tiles k job.job.terms.ranges job.job.noted j.ranges.separate j.pieces j.inside g in
+    let some = some_noted job.job.terms.ranges job.job.noted j.some j.ranges.separate tiled in
+    let end : (manifest_of job.job.noted).end ≤ most_version = k.manifests.end job.job.noted most_version (All-weaker (IsNoted p.settings.block w.time w.tickets) (λ n. n.file.version ≤ most_version) job.job.noted (λ n q. let v = q.past in let b = h.clock.bound in omega arith) j.noted) in
+    let name : name_of (seal_name w job) ≡ name_for (manifest_of job.job.noted) w.tickets = named k (manifest_name job.job w.tickets) (manifest_spelled (manifest_of job.job.noted).begin (manifest_of job.job.noted).end (manifest_of job.job.noted).bytes w.tickets (k.manifests.order job.job.noted) end fits t) in
     record {
-      fresh = fresh_manifest (seal_name w job) w.tickets (manifest_of job.hand.map.noted).begin (manifest_of job.hand.map.noted).end (manifest_of job.hand.map.noted).bytes w.tickets name;
+      terms = refl;
+      fresh = fresh_manifest (seal_name w job) w.tickets (manifest_of job.job.noted).begin (manifest_of job.job.noted).end (manifest_of job.job.noted).bytes w.tickets name;
       good = λ files e. record {
-        honest = λ st. subst (IsHonestFile file_grammars (source_of p.settings.block w.time (history_on job.side w) job) st.honest.folder (seal_name w job) (manifest_text (manifest_of job.hand.map.noted))) (sym name)
+        honest = λ st. subst (IsHonestFile file_grammars (source_of p.settings.block w.time (history_on job.side w) job) st.honest.folder (seal_name w job) (manifest_text (manifest_of job.job.noted))) (sym name)
             (λ u. seal_honest k p.settings.block w.time w.tickets w.tickets (history_on job.side w) files job (seal_name w job) (h.containers files e).ordered j st g fits);
-        lists = λ names l. seal_lists k p.settings.block w.time w.tickets w.tickets (history_on job.side w) job j some fits names (sym (ap (λ (x : Name). listed_by file_grammars x (manifest_text (manifest_of job.hand.map.noted))) name) ∙ l);
+        lists = λ names l. seal_lists k p.settings.block w.time w.tickets w.tickets (history_on job.side w) job j some fits names (sym (ap (λ (x : Name). listed_by file_grammars x (manifest_text (manifest_of job.job.noted))) name) ∙ l);
       };
       after = sealed_sound p.settings.block w.time (w.tickets + 1) (history_on job.side w) job (job_grown p.settings.block w.time w.time w.tickets (w.tickets + 1) (history_on job.side w) (history_on job.side w) job (same_time w.time) (later_tickets w.tickets) j.logged j);
       stored = λ files there st. record { honest = st.honest; there = tt; listed = st.listed };
     }
 
-seal_tested_keeps : (k : Known) (p : Workload) (w : State) (found : Found) (luck : Luck) (o : Option Bytes) → Sound p w → slice_get w.jobs found.place ≡ Some found.job → gap found.job.hand.map ≡ o → Sound p (seal_tested w found luck o).state
+seal_tested_keeps : (k : Known) (p : Workload) (w : State) (found : FoundBackup) (luck : Luck) (o : Option Bytes) → Sound p w → slice_get w.jobs found.place ≡ Some (types.Backup found.backup) → gap (map_of found.backup.job) ≡ o → Sound p (seal_tested w found luck o).state
 seal_tested_keeps k p w found luck (Some key) h at g = sound_gone p w h
-seal_tested_keeps k p w found luck None h at g = go (nat_lt most_bytes (snapshot_bytes found.job)) refl
+seal_tested_keeps k p w found luck None h at g = go (nat_lt most_bytes (snapshot_bytes found.backup)) refl
   where
-    go : (b : Bool) → nat_lt most_bytes (snapshot_bytes found.job) ≡ b → Sound p (cond b (moved (Err NoMemory) w) (seal_fitting w found luck)).state
+    go : (b : Bool) → nat_lt most_bytes (snapshot_bytes found.backup) ≡ b → Sound p (cond b (moved (Err NoMemory) w) (seal_fitting w found luck)).state
     go true e = h
-    go false e = putting_keeps k p w found.place found.job (with_seal found.job).hand (seal_name w found.job) (manifest_text (manifest_of found.job.hand.map.noted)) luck h at (seal_order k p w found.place found.job h at g (ltb-false most_bytes (snapshot_bytes found.job) e))
+    go false e = putting_keeps k p w found.place found.backup (with_seal found.backup).job (seal_name w found.backup) (manifest_text (manifest_of found.backup.job.noted)) luck h at (seal_order k p w found.place found.backup h at g (ltb-false most_bytes (snapshot_bytes found.backup) e))
 
-pub seal_keeps : (k : Known) (p : Workload) (w : State) (luck : Luck) (found : Found) → Sound p w → slice_get w.jobs found.place ≡ Some found.job → Sound p (seal_job w luck found).state
-seal_keeps k p w luck found h at = seal_tested_keeps k p w found luck (gap found.job.hand.map) h at refl
+pub seal_keeps : (k : Known) (p : Workload) (w : State) (luck : Luck) (found : FoundBackup) → Sound p w → slice_get w.jobs found.place ≡ Some (types.Backup found.backup) → Sound p (seal_job w luck found).state
+seal_keeps k p w luck found h at = seal_tested_keeps k p w found luck (gap (map_of found.backup.job)) h at refl

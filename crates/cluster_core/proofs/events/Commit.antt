@@ -1,5 +1,5 @@
 -- The event commit.
-use Rattle.std.specs.Prelude.{◌≡◌, ℕ, ◌+◌, ◌++◌, Bool, true, false, cond, List, [], ◌∷◌, Option, Some, None, Result, Ok, Err, slice_get, refl}
+use Rattle.std.specs.Prelude.{◌≡◌, ℕ, ◌+◌, ◌++◌, Bool, false, cond, List, [], ◌∷◌, Option, Some, None, Result, Ok, Err, slice_get, refl}
 use Rattle.std.specs.Prelude.{◌≤◌, ◌⊎◌}
 use Rattle.std.proofs.Common.{subst, arith, inl, inr}
 use Rattle.fb_bytes.specs.Options.{◌>>=◌}
@@ -21,10 +21,10 @@ use Rattle.mutations.specs.declared.Mutation.{Mutation}
 use Rattle.mutations.specs.declared.history.Who.{Who}
 use Rattle.mutations.specs.declared.TxOp.{TxOp}
 use Rattle.mutations.specs.Transactions.{writes_of}
-use Rattle.std.specs.Prelude.{◌≡◌, ℕ, zero, suc, ◌+◌, ◌^◌, ◌<◌, ◌≤◌, Bool, true, false, not, ◌&&◌, List, [], ◌∷◌, ◌++◌, length, Option, Some, None, Result, Ok, Err, slice_get, if◌then◌else◌, refl}
+use Rattle.std.specs.Prelude.{◌≡◌, ℕ, zero, suc, ◌+◌, ◌^◌, ◌<◌, ◌≤◌, Bool, false, List, [], ◌∷◌, ◌++◌, length, Option, Some, None, Result, Ok, Err, slice_get, refl}
 use Rattle.std.specs.List.{AllByRecursion}
 use Rattle.std.proofs.Common.{ap, sym, ◌∙◌, arith, subst, cond, length-append}
-use Rattle.std.proofs.lemmas.Bool.{eq-eqb, ne_eqb, and_from}
+use Rattle.std.proofs.lemmas.Bool.{eq-eqb, ne_eqb}
 use Rattle.mutations.specs.declared.Who.{Who}
 use Rattle.mutations.specs.declared.Who.TheVariants as who
 use Rattle.mutations.specs.Clipping.{all_clipped}
@@ -40,10 +40,16 @@ use Rattle.client_core.specs.declared.Outcome.{Outcome}
 use Rattle.client_core.specs.Clients.{ClientState, next_ops, after_try, try_of}
 use Rattle.client_core.specs.Legal.{is_by, entries_by, entry_of, committed, IsLegal}
 use Rattle.container_view.specs.Changes.{Grows}
-use Rattle.cluster_core.specs.Jobs.{Job, is_on, logs_from, logs_of}
+use Rattle.cluster_core.specs.declared.job.Job.TheVariants as types
+use Rattle.cluster_core.specs.Backups.{Backup}
+use Rattle.task_kinds.specs.States.{has_ended}
+use Rattle.cluster_core.specs.Jobs.{Job, log_on, with_front, logs_of}
+use Rattle.cluster_core.specs.Sound.{AreNumbered}
+use Rattle.cluster_core.proofs.Grown.{each_sound, each_kept}
+use Rattle.cluster_core.proofs.Numbering.{log_for, own_log}
 use Rattle.cluster_core.specs.State.{State, on_side, history_on, with_history, client_at, put_client}
 use Rattle.cluster_core.specs.Moves.{moved}
-use Rattle.cluster_core.specs.Sound.{IsOrdered, other_side, IsClientSound, AreLoggable, IsJobSound, IsStored, AreApart, Sound, source_of}
+use Rattle.cluster_core.specs.Sound.{IsOrdered, other_side, IsClientSound, AreLoggable, BackupSound, IsStored, AreApart, Sound, source_of}
 use Rattle.cluster_core.proofs.Lists.{scripts_put, each_put}
 use Rattle.cluster_core.proofs.Entries.{append_nil, entries_by-append, committed-snoc, Follow-snoc, All-snoc, All-weaker, IsRising-snoc}
 use Rattle.cluster_core.proofs.Known.{Known}
@@ -205,39 +211,30 @@ within_after block time pace logs None history who muts t h = h
 within_after block time pace logs (Some version) history who muts t h = All-snoc (λ (x : Entry). AreMutationsWithin block x.muts) history (record { version = version; who = who; muts = muts }) h t.within
 
 -- the log of a job that logs is among those of its side
-in_front_or_not : (P : JobLog → Type 0) (b : Bool) (log : JobLog) (logs : List JobLog) → AllByRecursion P (if b then log ∷ logs else logs) → AllByRecursion P logs
-in_front_or_not P true log logs a = a.1
-in_front_or_not P false log logs a = a
+behind_front : (P : JobLog → Type 0) (o : Option JobLog) (logs : List JobLog) → AllByRecursion P (with_front o logs) → AllByRecursion P logs
+behind_front P (Some log) logs a = a.1
+behind_front P None logs a = a
 
-own_side : (side t : Side) → side ≡ t → is_on side t ≡ true
-own_side Src Src e = refl
-own_side Src Dst e = cc
-own_side Dst Src e = cc
-own_side Dst Dst e = refl
-
-log_at : (P : JobLog → Type 0) (side : Side) (number : ℕ) (jobs : List Job) (place : ℕ) (job : Job) → AllByRecursion P (logs_from side number jobs) → slice_get jobs place ≡ Some job → side ≡ job.side → job.hand.aborted ≡ false → P (record { job = number + place; ranges = job.hand.map.ranges; begin = job.hand.begin })
-log_at P side number [] zero job a at s r = cc
-log_at P side number [] (suc place) job a at s r = cc
-log_at P side number (x ∷ xs) zero job a at s r =
+log_at : (P : JobLog → Type 0) (side : Side) (jobs : List Job) (place : ℕ) (job : Job) (log : JobLog) → AllByRecursion P (logs_of side jobs) → slice_get jobs place ≡ Some job → log_on side job ≡ Some log → P log
+log_at P side [] zero job log a at l = cc
+log_at P side [] (suc place) job log a at l = cc
+log_at P side (x ∷ xs) zero job log a at l =
     let same : x ≡ job = cc in
-    let own : is_on side x.side && not x.hand.aborted ≡ true = ap (λ (y : Job). is_on side y.side && not y.hand.aborted) same ∙ and_from (is_on side job.side) (not job.hand.aborted) (own_side side job.side s) (ap not r) in
-    let b : AllByRecursion P (record { job = number; ranges = x.hand.map.ranges; begin = x.hand.begin } ∷ logs_from side (number + 1) xs) = subst (λ (t : Bool). AllByRecursion P (if t then record { job = number; ranges = x.hand.map.ranges; begin = x.hand.begin } ∷ logs_from side (number + 1) xs else logs_from side (number + 1) xs)) own a in
-    subst (λ (y : Job). P (record { job = number + zero; ranges = y.hand.map.ranges; begin = y.hand.begin })) same (subst (λ (m : ℕ). P (record { job = m; ranges = x.hand.map.ranges; begin = x.hand.begin })) (let e : number ≡ number + zero = omega arith in e) b.0)
-log_at P side number (x ∷ xs) (suc place) job a at s r =
-    subst (λ (n : ℕ). P (record { job = n; ranges = job.hand.map.ranges; begin = job.hand.begin })) (let e : number + 1 + place ≡ number + suc place = omega arith in e)
-    (log_at P side (number + 1) xs place job (in_front_or_not P (is_on side x.side && not x.hand.aborted) (record { job = number; ranges = x.hand.map.ranges; begin = x.hand.begin }) (logs_from side (number + 1) xs) a) at s r)
+    let here : AllByRecursion P (log ∷ logs_of side xs) = subst (λ (o : Option JobLog). AllByRecursion P (with_front o (logs_of side xs))) (ap (log_on side) same ∙ l) a in
+    here.0
+log_at P side (x ∷ xs) (suc place) job log a at l = log_at P side xs place job log (behind_front P (log_on side x) (logs_of side xs) a) at l
 
-logged_after : (block time pace : ℕ) (side : Side) (jobs : List Job) (o : Option ℕ) (history : List Entry) (who : Who) (muts : List Mutation) (place : ℕ) (job : Job) → IsTaking block time pace (logs_of side jobs) muts o → slice_get jobs place ≡ Some job → side ≡ job.side → job.hand.aborted ≡ false → AreLoggable job.hand.map.ranges job.hand.begin history → AreLoggable job.hand.map.ranges job.hand.begin (history_after o who muts history)
+logged_after : (block time pace : ℕ) (side : Side) (jobs : List Job) (o : Option ℕ) (history : List Entry) (who : Who) (muts : List Mutation) (place : ℕ) (job : Backup) → IsTaking block time pace (logs_of side jobs) muts o → slice_get jobs place ≡ Some (types.Backup job) → side ≡ job.side → has_ended job.job.state ≡ false → AreLoggable job.job.terms.ranges job.job.begin history → AreLoggable job.job.terms.ranges job.job.begin (history_after o who muts history)
 logged_after block time pace side jobs None history who muts place job t at s r a = a
 logged_after block time pace side jobs (Some version) history who muts place job t at s r a =
-    All-snoc (λ (x : Entry). job.hand.begin ≤ x.version → length (mutations_spelling (all_clipped job.hand.map.ranges x.muts)) < 2 ^ 32) history (record { version = version; who = who; muts = muts }) a
-    (λ b. log_at (λ log. length (mutations_spelling (all_clipped log.ranges muts)) < 2 ^ 32) side 1 jobs place job t.logged at s r)
+    All-snoc (λ (x : Entry). job.job.begin ≤ x.version → length (mutations_spelling (all_clipped job.job.terms.ranges x.muts)) < 2 ^ 32) history (record { version = version; who = who; muts = muts }) a
+    (λ b. log_at (λ log. length (mutations_spelling (all_clipped log.ranges muts)) < 2 ^ 32) side jobs place (types.Backup job) (log_for job) t.logged at (own_log side job s r))
 
 later_time : (time pace : ℕ) (o : Option ℕ) → IsNext time pace o → time ≤ time_after o time
 later_time time pace None e = omega arith
 later_time time pace (Some version) e = let q = e.0 in omega arith
 
-grows_after : (block time pace : ℕ) (o : Option ℕ) (history : List Entry) (who : Who) (muts : List Mutation) (job : Job) → 1 ≤ pace → IsNext time pace o → Grows (source_of block time history job) (source_of block (time_after o time) (history_after o who muts history) job)
+grows_after : (block time pace : ℕ) (o : Option ℕ) (history : List Entry) (who : Who) (muts : List Mutation) (job : Backup) → 1 ≤ pace → IsNext time pace o → Grows (source_of block time history job) (source_of block (time_after o time) (history_after o who muts history) job)
 grows_after block time pace None history who muts job q e = waits block time time history job (let s : time ≤ time = omega arith in s)
 grows_after block time pace (Some version) history who muts job q e = enters block time history (record { version = version; who = who; muts = muts }) job (let v = e.0 in omega arith)
 
@@ -278,27 +275,28 @@ ended_keeps known p w n c ops outcome o at next place attempt end is_next taking
             });
       };
       jobs = record {
-        each = λ m x e.
-            let f : slice_get w.jobs m ≡ Some x = ap (λ (js : List Job). slice_get js m) (sym (with_history_jobs c.script.side history w)) ∙ e in
-            let j = h.jobs.each m x f in
-            subst (λ (t : ℕ). IsJobSound p.settings.block (time_after o w.time) t (on_side x.side (with_history c.script.side history w).src (with_history c.script.side history w).dst) x) (sym (with_history_next c.script.side history w))
-            (side_cases (λ (xs : List Entry). IsJobSound p.settings.block (time_after o w.time) w.tickets xs x) c.script.side x.side w history
+        each = each_sound p.settings.block (time_after o w.time) (with_history c.script.side history w).tickets (with_history c.script.side history w).src (with_history c.script.side history w).dst (with_history c.script.side history w).jobs (λ m x e.
+            let f : slice_get w.jobs m ≡ Some (types.Backup x) = ap (λ (js : List Job). slice_get js m) (sym (with_history_jobs c.script.side history w)) ∙ e in
+            let j = h.jobs.each m (types.Backup x) f in
+            subst (λ (t : ℕ). BackupSound p.settings.block (time_after o w.time) t (on_side x.side (with_history c.script.side history w).src (with_history c.script.side history w).dst) x) (sym (with_history_next c.script.side history w))
+            (side_cases (λ (xs : List Entry). BackupSound p.settings.block (time_after o w.time) w.tickets xs x) c.script.side x.side w history
             (λ s. job_grown p.settings.block w.time (time_after o w.time) w.tickets w.tickets (history_on x.side w) history x le (same_number w.tickets)
-            (λ r. logged_after p.settings.block w.time p.settings.pace c.script.side w.jobs o (history_on c.script.side w) by (writes_of ops) m x taking f s r (subst (λ (t : Side). AreLoggable x.hand.map.ranges x.hand.begin (history_on t w)) (sym s) (j.logged r))) j)
-            (job_grown p.settings.block w.time (time_after o w.time) w.tickets w.tickets (history_on x.side w) (history_on x.side w) x le (same_number w.tickets) j.logged j));
+            (λ r. logged_after p.settings.block w.time p.settings.pace c.script.side w.jobs o (history_on c.script.side w) by (writes_of ops) m x taking f s r (subst (λ (t : Side). AreLoggable x.job.terms.ranges x.job.begin (history_on t w)) (sym s) (j.logged r))) j)
+            (job_grown p.settings.block w.time (time_after o w.time) w.tickets w.tickets (history_on x.side w) (history_on x.side w) x le (same_number w.tickets) j.logged j)));
         apart = subst AreApart (sym (with_history_jobs c.script.side history w)) h.jobs.apart;
+        numbered = subst (AreNumbered 1) (sym (with_history_jobs c.script.side history w)) h.jobs.numbered;
       };
       containers = λ files e.
           let g : w.files ≡ Some files = sym (with_history_files c.script.side history w) ∙ e in
           let st = h.containers files g in
           record {
             ordered = st.ordered;
-            each = λ m x e.
-                let f : slice_get w.jobs m ≡ Some x = ap (λ (js : List Job). slice_get js m) (sym (with_history_jobs c.script.side history w)) ∙ e in
+            each = each_kept p.settings.block (time_after o w.time) (with_history c.script.side history w).tickets (with_history c.script.side history w).src (with_history c.script.side history w).dst files (with_history c.script.side history w).jobs (λ m x e.
+                let f : slice_get w.jobs m ≡ Some (types.Backup x) = ap (λ (js : List Job). slice_get js m) (sym (with_history_jobs c.script.side history w)) ∙ e in
                 subst (λ (t : ℕ). IsStored p.settings.block (time_after o w.time) t (on_side x.side (with_history c.script.side history w).src (with_history c.script.side history w).dst) files x) (sym (with_history_next c.script.side history w))
                 (side_cases (λ (xs : List Entry). IsStored p.settings.block (time_after o w.time) w.tickets xs files x) c.script.side x.side w history
-                (λ s. stored_grown known p.settings.block w.time (time_after o w.time) w.tickets w.tickets (history_on c.script.side w) history files x (grows_after p.settings.block w.time p.settings.pace o (history_on c.script.side w) by (writes_of ops) x pace is_next) (same_number w.tickets) (subst (λ (t : Side). IsStored p.settings.block w.time w.tickets (history_on t w) files x) (sym s) (st.each m x f)))
-                (stored_grown known p.settings.block w.time (time_after o w.time) w.tickets w.tickets (history_on x.side w) (history_on x.side w) files x (waits p.settings.block w.time (time_after o w.time) (history_on x.side w) x le) (same_number w.tickets) (st.each m x f)));
+                (λ s. stored_grown known p.settings.block w.time (time_after o w.time) w.tickets w.tickets (history_on c.script.side w) history files x (grows_after p.settings.block w.time p.settings.pace o (history_on c.script.side w) by (writes_of ops) x pace is_next) (same_number w.tickets) (subst (λ (t : Side). IsStored p.settings.block w.time w.tickets (history_on t w) files x) (sym s) (st.each m (types.Backup x) f)))
+                (stored_grown known p.settings.block w.time (time_after o w.time) w.tickets w.tickets (history_on x.side w) (history_on x.side w) files x (waits p.settings.block w.time (time_after o w.time) (history_on x.side w) x le) (same_number w.tickets) (st.each m (types.Backup x) f))));
           };
     }
 

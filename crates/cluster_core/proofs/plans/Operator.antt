@@ -12,7 +12,7 @@ use Rattle.cluster_core.specs.declared.event.Answer.{Answer}
 use Rattle.cluster_core.specs.declared.event.Answer.TheVariants as answers
 use Rattle.cluster_core.specs.declared.event.StepFault.{StepFault}
 use Rattle.cluster_core.specs.declared.event.StepFault.TheVariants.{NoMemory}
-use Rattle.cluster_core.specs.declared.job_state.JobState.{JobState}
+use Rattle.task_kinds.specs.declared.JobState.{JobState}
 use Rattle.cluster_core.specs.declared.refusal.Refusal.{Refusal}
 use Rattle.cluster_core.specs.declared.event.Event.{Event}
 use Rattle.cluster_core.specs.declared.event.Event.TheVariants as events

@@ -1,5 +1,5 @@
 -- A plan that puts a file is carried out.
-use Rattle.std.specs.Prelude.{◌≡◌, ℕ, zero, suc, ◌+◌, ◌≤◌, Bool, true, false, not, ◌&&◌, cond, List, [], ◌∷◌, Option, Some, None, Ok, Err, ◌⊎◌, nat_lt, slice_get, slice_set, refl}
+use Rattle.std.specs.Prelude.{◌≡◌, ℕ, zero, suc, ◌+◌, ◌≤◌, Bool, true, false, cond, List, [], ◌∷◌, Option, Some, None, Ok, Err, ◌⊎◌, nat_lt, slice_get, slice_set, refl}
 use Rattle.std.proofs.Common.{ap, sym, ◌∙◌, inl, inr, arith, subst}
 use Rattle.std.proofs.lemmas.Bool.{ltb-true}
 use Rattle.fb_bytes.specs.Bytes.{Bytes}
@@ -20,7 +20,8 @@ use Rattle.cluster_core.specs.inner.Filed.{changed}
 use Rattle.cluster_core.specs.inner.Plans.{files as files_put}
 use Rattle.cluster_core.specs.declared.plan.Filing.{Filing}
 use Rattle.cluster_core.specs.declared.plan.Plan.TheVariants as plans
-use Rattle.cluster_core.specs.Jobs.{Job, is_on, with_log_of, logs_from}
+use Rattle.cluster_core.specs.declared.job.Job.TheVariants as types
+use Rattle.cluster_core.specs.Jobs.{Job, log_on, with_front, logs_of}
 use Rattle.cluster_core.specs.State.{State, with_job, with_put}
 use Rattle.cluster_core.specs.Moves.{Luck, Fine, FailsOld, FailsNew, is_starved, Moved, moved, Silent}
 use Rattle.cluster_core.specs.commands.Shared.{puts, putting}
@@ -31,16 +32,12 @@ use Rattle.cluster_core.specs.inner.World.{IsWorld}
 use Rattle.cluster_core.proofs.Relied.{known}
 use Rattle.cluster_core.proofs.Steps.{luck_keeps}
 
-like_log : (side : Side) (number : ℕ) (old new : Job) (logs : List JobLog) → IsLike old new → with_log_of side number new logs ≡ with_log_of side number old logs
-like_log side number old new logs l i =
-    cond (is_on side (l.side i) && not (l.aborted i)) (record { job = number; ranges = l.ranges i; begin = l.begin i } ∷ logs) logs
-
-logs_like : (side : Side) (number : ℕ) (jobs : List Job) (place : ℕ) (old new : Job) → slice_get jobs place ≡ Some old → IsLike old new → logs_from side number (slice_set jobs place new) ≡ logs_from side number jobs
-logs_like side number [] place old new at l = refl
-logs_like side number (x ∷ xs) zero old new at l =
+logs_like : (side : Side) (jobs : List Job) (place : ℕ) (old new : Job) → slice_get jobs place ≡ Some old → IsLike old new → logs_of side (slice_set jobs place new) ≡ logs_of side jobs
+logs_like side [] place old new at l = refl
+logs_like side (x ∷ xs) zero old new at l =
     let same : x ≡ old = cc in
-    like_log side number old new (logs_from side (number + 1) xs) l ∙ ap (λ (y : Job). with_log_of side number y (logs_from side (number + 1) xs)) (sym same)
-logs_like side number (x ∷ xs) (suc place) old new at l = ap (with_log_of side number x) (logs_like side (number + 1) xs place old new at l)
+    ap (λ (o : Option JobLog). with_front o (logs_of side xs)) (l side ∙ ap (log_on side) (sym same))
+logs_like side (x ∷ xs) (suc place) old new at l = ap (with_front (log_on side x)) (logs_like side xs place old new at l)
 
 -- what a store tells after a put
 pub put_files : (whole bytes : Bytes) (old new : Option (List File)) → ((files : List File) → old ≡ Some files → new ≡ Some (with_file files whole bytes)) → (old ≡ None → new ≡ None) → new ≡ with_put whole bytes old
@@ -63,9 +60,9 @@ ticket_left w whole bytes after luck t = ap (λ (b : Bool). cond b (moved (Err N
 
 -- nothing of a job's log differs by a file
 like_changed : (change : Change) (job : Job) → IsLike job (changed change job)
-like_changed (changes.Dump piece now file) job = record { side = refl; ranges = refl; begin = refl; aborted = refl }
-like_changed (changes.Cut now) job = record { side = refl; ranges = refl; begin = refl; aborted = refl }
-like_changed changes.Seal job = record { side = refl; ranges = refl; begin = refl; aborted = refl }
+like_changed (changes.Dump piece now file) (types.Backup backup) side = refl
+like_changed (changes.Cut now) (types.Backup backup) side = refl
+like_changed changes.Seal (types.Backup backup) side = refl
 
 -- what a step with a put comes to
 pub put_step : (p : Workload) (w : State) (filing : Filing) (luck : Luck) → is_starved luck ≡ false → IsPlan p w (plans.Put filing) → (safe : IsSafe w (plans.Put filing)) → step p w events.Command luck ≡ puts w filing.whole filing.bytes (with_job filing.place (changed filing.change safe.job) w) luck
@@ -83,8 +80,8 @@ put_world p src dst v w filing place files h plan safe e f =
       src_block = h.src_block;
       dst_block = h.dst_block;
       pace = h.pace;
-      src_logs = h.src_logs ∙ sym (logs_like Src 1 w.jobs filing.place safe.job (changed filing.change safe.job) safe.at (like_changed filing.change safe.job));
-      dst_logs = h.dst_logs ∙ sym (logs_like Dst 1 w.jobs filing.place safe.job (changed filing.change safe.job) safe.at (like_changed filing.change safe.job));
+      src_logs = h.src_logs ∙ sym (logs_like Src w.jobs filing.place safe.job (changed filing.change safe.job) safe.at (like_changed filing.change safe.job));
+      dst_logs = h.dst_logs ∙ sym (logs_like Dst w.jobs filing.place safe.job (changed filing.change safe.job) safe.at (like_changed filing.change safe.job));
       sound = sound_step p w (Fine Silent) _ h.sound (put_step p w filing (Fine Silent) refl plan safe);
     }))
 

@@ -1,5 +1,5 @@
 -- A plan that starts a job is carried out.
-use Rattle.std.specs.Prelude.{◌≡◌, ℕ, ◌+◌, ◌<◌, Bool, true, false, not, ◌&&◌, cond, List, [], ◌∷◌, ◌++◌, length, take, Option, Some, None, Ok, Err, ◌⊎◌, nat_lt, if◌then◌else◌, refl}
+use Rattle.std.specs.Prelude.{◌≡◌, ℕ, ◌+◌, ◌<◌, Bool, true, false, cond, List, [], ◌∷◌, ◌++◌, length, take, Option, Some, None, Ok, Err, ◌⊎◌, nat_lt, if◌then◌else◌, refl}
 use Rattle.std.specs.List.{AllByRecursion}
 use Rattle.std.proofs.Common.{ap, sym, ◌∙◌, inl, inr, arith, subst}
 use Rattle.std.proofs.lemmas.Bool.{lt-ltb, ne_eqb}
@@ -23,7 +23,9 @@ use Rattle.cluster_core.specs.declared.refusal.Refusal.TheVariants.{ContainerInU
 use Rattle.database.specs.declared.SystemFault.TheVariants as system
 use Rattle.cluster_core.specs.declared.event.Event.TheVariants as events
 use Rattle.cluster_core.specs.declared.plan.Plan.TheVariants as plans
-use Rattle.cluster_core.specs.Jobs.{Job, is_on, with_log_of, logs_from, logs_of}
+use Rattle.cluster_core.specs.Jobs.{Job, log_on, with_front, logs_of}
+use Rattle.cluster_core.specs.Sound.{AreNumbered}
+use Rattle.cluster_core.proofs.Numbering.{all_lower}
 use Rattle.cluster_core.specs.State.{State}
 use Rattle.cluster_core.specs.Moves.{Luck, Fine, FailsOld, Starved, moved, Listed}
 use Rattle.cluster_core.specs.commands.Shared.{gone_on, done}
@@ -31,9 +33,8 @@ use Rattle.cluster_core.specs.commands.Open.{new_job, open_over, names_listed}
 use Rattle.cluster_core.specs.Step.{step}
 use Rattle.cluster_core.specs.inner.Plans.{IsPlan}
 use Rattle.cluster_core.specs.inner.World.{Desk, state_of, IsWorld, logs_more, IsListed, IsFirstName}
-use Rattle.cluster_core.proofs.Entries.{append_nil, All-weaker}
+use Rattle.cluster_core.proofs.Entries.{append_nil}
 use Rattle.cluster_core.proofs.plans.Put.{sound_step}
-use Rattle.cluster_core.proofs.plans.Abort.{in_front_of}
 
 listed_names : (container : Bytes) (names : List Bytes) (o : Option (List File)) → ((files : List File) → o ≡ Some files → names ≡ names_inside container files) → names_listed container o names ≡ names
 listed_names container names None told = refl
@@ -66,51 +67,44 @@ none_next time pace r e f = go (nat_lt most_version (time + pace)) refl (sym f �
     go true t q = t
     go false t q = cc
 
--- numbers stay below the next one
-all_lower : (side : Side) (number : ℕ) (jobs : List Job) → AllByRecursion (λ log. log.job < number + length jobs) (logs_from side number jobs)
-all_lower side number [] = tt
-all_lower side number (x ∷ xs) =
-    in_front_of (λ log. log.job < number + length (x ∷ xs)) (is_on side x.side && not x.hand.aborted) (record { job = number; ranges = x.hand.map.ranges; begin = x.hand.begin }) (logs_from side (number + 1) xs) (omega arith)
-    (All-weaker (λ log. log.job < number + 1 + length xs) (λ log. log.job < number + length (x ∷ xs)) (logs_from side (number + 1) xs) (λ log l. omega arith) (all_lower side (number + 1) xs))
-
 none_of : (job : ℕ) (logs : List JobLog) → AllByRecursion (λ log. log.job < job) logs → log_of logs job ≡ None
 none_of job [] a = refl
 none_of job (log ∷ logs) a = ap (λ (b : Bool). cond b (Some log) (log_of logs job)) (ne_eqb log.job job (λ e. let l = a.0 in absurd (omega arith))) ∙ none_of job logs a.1
 
 -- the next job doesn't log yet
-pub next_logs_none : (side : Side) (jobs : List Job) (logs : List JobLog) (number : ℕ) → logs ≡ logs_of side jobs → number ≡ length jobs + 1 → log_of logs number ≡ None
-next_logs_none side jobs logs number l n =
+pub next_logs_none : (side : Side) (jobs : List Job) (logs : List JobLog) (number : ℕ) → AreNumbered 1 jobs → logs ≡ logs_of side jobs → number ≡ length jobs + 1 → log_of logs number ≡ None
+next_logs_none side jobs logs number a l n =
     ap (λ (ls : List JobLog). log_of ls number) l
-    ∙ none_of number (logs_of side jobs) (All-weaker (λ log. log.job < 1 + length jobs) (λ log. log.job < number) (logs_of side jobs) (λ log k. omega arith) (all_lower side 1 jobs))
+    ∙ none_of number (logs_of side jobs) (all_lower side 1 number jobs a (n ∙ omega arith))
 
 with_last : (log : JobLog) (logs : List JobLog) → AllByRecursion (λ l. l.job < log.job) logs → with_log log logs ≡ logs ++ log ∷ []
 with_last log [] a = refl
 with_last log (l ∷ logs) a = ap (λ (b : Bool). cond b (l ∷ with_log log logs) (log ∷ l ∷ logs)) (lt-ltb l.job log.job a.0) ∙ ap (λ (ls : List JobLog). l ∷ ls) (with_last log logs a.1)
 
 -- one job more at the end
-logs_end : (side : Side) (number : ℕ) (jobs : List Job) (new : Job) → logs_from side number (jobs ++ new ∷ []) ≡ logs_from side number jobs ++ with_log_of side (number + length jobs) new []
-logs_end side number [] new = ap (λ (n : ℕ). with_log_of side n new []) (let e : number ≡ number + 0 = omega arith in e)
-logs_end side number (x ∷ xs) new =
-    ap (with_log_of side number x) (logs_end side (number + 1) xs new ∙ ap (λ (n : ℕ). logs_from side (number + 1) xs ++ with_log_of side n new []) (let e : number + 1 + length xs ≡ number + length (x ∷ xs) = omega arith in e))
-    ∙ in_front_append (is_on side x.side && not x.hand.aborted) (record { job = number; ranges = x.hand.map.ranges; begin = x.hand.begin }) (logs_from side (number + 1) xs) (with_log_of side (number + length (x ∷ xs)) new [])
+logs_end : (side : Side) (jobs : List Job) (new : Job) → logs_of side (jobs ++ new ∷ []) ≡ logs_of side jobs ++ with_front (log_on side new) []
+logs_end side [] new = refl
+logs_end side (x ∷ xs) new = ap (with_front (log_on side x)) (logs_end side xs new) ∙ front_append (log_on side x) (logs_of side xs) (with_front (log_on side new) [])
   where
-    in_front_append : (b : Bool) (log : JobLog) (xs ys : List JobLog) → (if b then log ∷ (xs ++ ys) else (xs ++ ys)) ≡ (if b then log ∷ xs else xs) ++ ys
-    in_front_append true log xs ys = refl
-    in_front_append false log xs ys = refl
+    front_append : (o : Option JobLog) (xs ys : List JobLog) → with_front o (xs ++ ys) ≡ with_front o xs ++ ys
+    front_append (Some log) xs ys = refl
+    front_append None xs ys = refl
 
-started_logs : (side other : Side) (jobs : List Job) (tag container : Bytes) (ranges : List KeyRange) (version number : ℕ) (db : Database) → number ≡ length jobs + 1 → db.logs ≡ logs_of other jobs → (logs_more side other (record { job = number; ranges = ranges; begin = version }) db).logs ≡ logs_of other (jobs ++ new_job tag side container ranges version ∷ [])
-started_logs Src Src jobs tag container ranges version number db n h =
-    ap (with_log (record { job = number; ranges = ranges; begin = version })) h
-    ∙ with_last (record { job = number; ranges = ranges; begin = version }) (logs_of Src jobs) (All-weaker (λ log. log.job < 1 + length jobs) (λ log. log.job < number) (logs_of Src jobs) (λ log k. omega arith) (all_lower Src 1 jobs))
-    ∙ ap (λ (m : ℕ). logs_of Src jobs ++ record { job = m; ranges = ranges; begin = version } ∷ []) (let e : number ≡ 1 + length jobs = omega arith in e)
-    ∙ sym (logs_end Src 1 jobs (new_job tag Src container ranges version))
-started_logs Src Dst jobs tag container ranges version number db n h = h ∙ sym (logs_end Dst 1 jobs (new_job tag Src container ranges version) ∙ append_nil (logs_of Dst jobs))
-started_logs Dst Src jobs tag container ranges version number db n h = h ∙ sym (logs_end Src 1 jobs (new_job tag Dst container ranges version) ∙ append_nil (logs_of Src jobs))
-started_logs Dst Dst jobs tag container ranges version number db n h =
-    ap (with_log (record { job = number; ranges = ranges; begin = version })) h
-    ∙ with_last (record { job = number; ranges = ranges; begin = version }) (logs_of Dst jobs) (All-weaker (λ log. log.job < 1 + length jobs) (λ log. log.job < number) (logs_of Dst jobs) (λ log k. omega arith) (all_lower Dst 1 jobs))
-    ∙ ap (λ (m : ℕ). logs_of Dst jobs ++ record { job = m; ranges = ranges; begin = version } ∷ []) (let e : number ≡ 1 + length jobs = omega arith in e)
-    ∙ sym (logs_end Dst 1 jobs (new_job tag Dst container ranges version))
+-- the log of a job that begins
+abbrev pub new_log : ℕ → List KeyRange → ℕ → JobLog
+new_log number ranges version = record { job = number; ranges = ranges; begin = version; erased = version }
+
+started_logs : (side other : Side) (jobs : List Job) (tag container : Bytes) (ranges : List KeyRange) (version number : ℕ) (db : Database) → AreNumbered 1 jobs → number ≡ length jobs + 1 → db.logs ≡ logs_of other jobs → (logs_more side other (new_log number ranges version) db).logs ≡ logs_of other (jobs ++ new_job number tag side container ranges version ∷ [])
+started_logs Src Src jobs tag container ranges version number db a n h =
+    ap (with_log (new_log number ranges version)) h
+    ∙ with_last (new_log number ranges version) (logs_of Src jobs) (all_lower Src 1 number jobs a (n ∙ omega arith))
+    ∙ sym (logs_end Src jobs (new_job number tag Src container ranges version))
+started_logs Src Dst jobs tag container ranges version number db a n h = h ∙ sym (logs_end Dst jobs (new_job number tag Src container ranges version) ∙ append_nil (logs_of Dst jobs))
+started_logs Dst Src jobs tag container ranges version number db a n h = h ∙ sym (logs_end Src jobs (new_job number tag Dst container ranges version) ∙ append_nil (logs_of Src jobs))
+started_logs Dst Dst jobs tag container ranges version number db a n h =
+    ap (with_log (new_log number ranges version)) h
+    ∙ with_last (new_log number ranges version) (logs_of Dst jobs) (all_lower Dst 1 number jobs a (n ∙ omega arith))
+    ∙ sym (logs_end Dst jobs (new_job number tag Dst container ranges version))
 
 more_block : (side other : Side) (log : JobLog) (db : Database) → (logs_more side other log db).block ≡ db.block
 more_block Src Src log db = refl
@@ -128,20 +122,20 @@ more_history Dst Dst log db = refl
 pub record IsStart (side : Side) (tag container : Bytes) (ranges : List KeyRange) (src dst src' dst' : Database) (v v' : Versions) (desk : Desk) (jobs : List Job) (next version : ℕ) : Type 0 where
   pub number : ℕ
   pub number_is : number ≡ length desk.jobs + 1
-  pub src_is : src' ≡ logs_more side Src (record { job = number; ranges = ranges; begin = version }) src
-  pub dst_is : dst' ≡ logs_more side Dst (record { job = number; ranges = ranges; begin = version }) dst
+  pub src_is : src' ≡ logs_more side Src (new_log number ranges version) src
+  pub dst_is : dst' ≡ logs_more side Dst (new_log number ranges version) dst
   pub version_is : next_version v.now v.pace ≡ Ok version
   pub time : v' ≡ record v { now = version }
-  pub jobs_are : jobs ≡ desk.jobs ++ new_job tag side container ranges version ∷ []
+  pub jobs_are : jobs ≡ desk.jobs ++ new_job (length desk.jobs + 1) tag side container ranges version ∷ []
   pub next_is : next ≡ desk.place + 1
 
-started : (p : Workload) (side : Side) (tag container : Bytes) (ranges : List KeyRange) (src dst src' dst' : Database) (v v' : Versions) (clients : List ClientState) (desk : Desk) (files : Option (List File)) (jobs : List Job) (next version : ℕ) → IsStart side tag container ranges src dst src' dst' v v' desk jobs next version → state_of clients src' dst' v' (record { jobs = jobs; place = next; tickets = desk.tickets }) files ≡ gone_on (record (state_of clients src dst v desk files) { time = version; jobs = desk.jobs ++ new_job tag side container ranges version ∷ [] })
+started : (p : Workload) (side : Side) (tag container : Bytes) (ranges : List KeyRange) (src dst src' dst' : Database) (v v' : Versions) (clients : List ClientState) (desk : Desk) (files : Option (List File)) (jobs : List Job) (next version : ℕ) → IsStart side tag container ranges src dst src' dst' v v' desk jobs next version → state_of clients src' dst' v' (record { jobs = jobs; place = next; tickets = desk.tickets }) files ≡ gone_on (record (state_of clients src dst v desk files) { time = version; jobs = desk.jobs ++ new_job (length desk.jobs + 1) tag side container ranges version ∷ [] })
 started p side tag container ranges src dst src' dst' v v' clients desk files jobs next version i =
     ap (λ (h : List Entry). record (state_of clients src' dst' v' (record { jobs = jobs; place = next; tickets = desk.tickets }) files) { src = h }) (ap (λ (x : Database). x.history) i.src_is ∙ more_history side Src _ src)
     ∙ ap (λ (h : List Entry). record (state_of clients src dst' v' (record { jobs = jobs; place = next; tickets = desk.tickets }) files) { dst = h }) (ap (λ (x : Database). x.history) i.dst_is ∙ more_history side Dst _ dst)
     ∙ ap (λ (x : Versions). state_of clients src dst x (record { jobs = jobs; place = next; tickets = desk.tickets }) files) i.time
     ∙ ap (λ (js : List Job). state_of clients src dst (record v { now = version }) (record { jobs = js; place = next; tickets = desk.tickets }) files) i.jobs_are
-    ∙ ap (λ (n : ℕ). state_of clients src dst (record v { now = version }) (record { jobs = desk.jobs ++ new_job tag side container ranges version ∷ []; place = n; tickets = desk.tickets }) files) i.next_is
+    ∙ ap (λ (n : ℕ). state_of clients src dst (record v { now = version }) (record { jobs = desk.jobs ++ new_job (length desk.jobs + 1) tag side container ranges version ∷ []; place = n; tickets = desk.tickets }) files) i.next_is
 
 pub start_done : (p : Workload) (side : Side) (tag container : Bytes) (ranges : List KeyRange) (src dst src' dst' : Database) (v v' : Versions) (clients : List ClientState) (desk : Desk) (files : Option (List File)) (jobs : List Job) (next version : ℕ) → v.pace ≡ p.settings.pace → IsStart side tag container ranges src dst src' dst' v v' desk jobs next version → IsPlan p (state_of clients src dst v desk files) (plans.Open tag side container ranges) → IsListed (state_of clients src dst v desk files) container None → (luck : Luck) × (step p (state_of clients src dst v desk files) events.Command luck ≡ moved (Ok answers.Done) (state_of clients src' dst' v' (record { jobs = jobs; place = next; tickets = desk.tickets }) files))
 start_done p side tag container ranges src dst src' dst' v v' clients desk files jobs next version pace i plan listed =
@@ -150,8 +144,8 @@ start_done p side tag container ranges src dst src' dst' v v' clients desk files
       Fine (Listed listed.0),
       plan (Fine (Listed listed.0))
           ∙ ap (open_over p.settings w tag side container ranges) listed.1
-          ∙ ap (λ (b : Bool). cond b (moved (Err (VersionsSpent v.now)) w) (done (record w { time = v.now + p.settings.pace; jobs = desk.jobs ++ new_job tag side container ranges (v.now + p.settings.pace) ∷ [] }))) n.0
-          ∙ ap (λ (t : ℕ). done (record w { time = t; jobs = desk.jobs ++ new_job tag side container ranges t ∷ [] })) n.1
+          ∙ ap (λ (b : Bool). cond b (moved (Err (VersionsSpent v.now)) w) (done (record w { time = v.now + p.settings.pace; jobs = desk.jobs ++ new_job (length desk.jobs + 1) tag side container ranges (v.now + p.settings.pace) ∷ [] }))) n.0
+          ∙ ap (λ (t : ℕ). done (record w { time = t; jobs = desk.jobs ++ new_job (length desk.jobs + 1) tag side container ranges t ∷ [] })) n.1
           ∙ ap (moved (Ok answers.Done)) (sym (started p side tag container ranges src dst src' dst' v v' clients desk files jobs next version i)),
     )
 
@@ -162,8 +156,8 @@ start_world p side tag container ranges src dst src' dst' v v' clients desk file
       src_block = ap (λ (x : Database). x.block) i.src_is ∙ more_block side Src _ src ∙ h.src_block;
       dst_block = ap (λ (x : Database). x.block) i.dst_is ∙ more_block side Dst _ dst ∙ h.dst_block;
       pace = ap (λ (x : Versions). x.pace) i.time ∙ h.pace;
-      src_logs = ap (λ (x : Database). x.logs) i.src_is ∙ started_logs side Src desk.jobs tag container ranges version i.number src i.number_is h.src_logs ∙ ap (logs_of Src) (sym i.jobs_are);
-      dst_logs = ap (λ (x : Database). x.logs) i.dst_is ∙ started_logs side Dst desk.jobs tag container ranges version i.number dst i.number_is h.dst_logs ∙ ap (logs_of Dst) (sym i.jobs_are);
+      src_logs = ap (λ (x : Database). x.logs) i.src_is ∙ started_logs side Src desk.jobs tag container ranges version i.number src h.sound.jobs.numbered i.number_is h.src_logs ∙ ap (λ (n : ℕ). logs_of Src (desk.jobs ++ new_job n tag side container ranges version ∷ [])) i.number_is ∙ ap (logs_of Src) (sym i.jobs_are);
+      dst_logs = ap (λ (x : Database). x.logs) i.dst_is ∙ started_logs side Dst desk.jobs tag container ranges version i.number dst h.sound.jobs.numbered i.number_is h.dst_logs ∙ ap (λ (n : ℕ). logs_of Dst (desk.jobs ++ new_job n tag side container ranges version ∷ [])) i.number_is ∙ ap (logs_of Dst) (sym i.jobs_are);
       sound = sound_step p (state_of clients src dst v desk files) s.0 _ h.sound s.1;
     }
 
@@ -194,7 +188,7 @@ start_spent p side tag container ranges w t plan listed = (
   Fine (Listed listed.0),
   plan (Fine (Listed listed.0))
       ∙ ap (open_over p.settings w tag side container ranges) listed.1
-      ∙ ap (λ (b : Bool). cond b (moved (Err (VersionsSpent w.time)) w) (done (record w { time = w.time + p.settings.pace; jobs = w.jobs ++ new_job tag side container ranges (w.time + p.settings.pace) ∷ [] }))) t,
+      ∙ ap (λ (b : Bool). cond b (moved (Err (VersionsSpent w.time)) w) (done (record w { time = w.time + p.settings.pace; jobs = w.jobs ++ new_job (length w.jobs + 1) tag side container ranges (w.time + p.settings.pace) ∷ [] }))) t,
 )
 
 pub open_refused : (p : Workload) (side : Side) (tag container : Bytes) (ranges : List KeyRange) (w new : State) (name : Bytes) → IsPlan p w (plans.Open tag side container ranges) → IsListed w container (Some name) → new ≡ gone_on w → (luck : Luck) × (step p w events.Command luck ≡ moved (Ok (answers.Refused (ContainerInUse name))) new)

@@ -9,12 +9,13 @@ use Rattle.snapshot_plan.specs.Noted.{pieces_of}
 use Rattle.snapshot_plan.specs.Pieces.{outside, overlap}
 use Rattle.snapshot_plan.specs.declared.Done as plans
 use Rattle.database.specs.Dumps.{pairs_at}
-use Rattle.backup_core.specs.Hand.{range_name, text_of, dumped}
+use Rattle.backup_core.specs.Backups.{range_name, text_of, dumped}
 use Rattle.workload_text.specs.declared.Side.{Side}
 use Rattle.workload_text.specs.declared.Settings.{Settings}
 use Rattle.cluster_core.specs.declared.refusal.Refusal.TheVariants.{OutsideRanges}
 use Rattle.cluster_core.specs.declared.refusal.Refusal.TheVariants.{Overlap}
-use Rattle.cluster_core.specs.Jobs.{Job, Found}
+use Rattle.cluster_core.specs.declared.job.Job.TheVariants as types
+use Rattle.cluster_core.specs.Backups.{Backup, FoundBackup}
 use Rattle.cluster_core.specs.State as machine
 use Rattle.cluster_core.specs.State.{history_on, with_job}
 use Rattle.cluster_core.specs.Moves.{Luck, Moved}
@@ -26,40 +27,43 @@ piece_bytes settings state side piece =
     range_text settings.block piece.begin piece.end
     (pairs_at settings.block (history_on side state) state.time piece)
 
-abbrev pub dump_bytes : Settings → machine.State → Job → KeyRange → Bytes
-dump_bytes settings state job piece = piece_bytes settings state job.side piece
+abbrev pub dump_bytes : Settings → machine.State → Backup → KeyRange → Bytes
+dump_bytes settings state backup piece = piece_bytes settings state backup.side piece
 
-abbrev pub dump_name : Settings → machine.State → Job → Bytes
-dump_name settings state job = text_of (range_name job.hand state.time state.tickets settings.block)
+abbrev pub dump_name : Settings → machine.State → Backup → Bytes
+dump_name settings state backup =
+    text_of (range_name backup.job state.time state.tickets settings.block)
 
 -- what a manifest will say of the range file of a piece
-abbrev pub dump_done : Settings → machine.State → Job → KeyRange → plans.Done
-dump_done settings state job piece =
+abbrev pub dump_done : Settings → machine.State → Backup → KeyRange → plans.Done
+dump_done settings state backup piece =
     record {
-      name = dump_name settings state job;
+      name = dump_name settings state backup;
       version = state.time;
-      bytes = length (dump_bytes settings state job piece);
+      bytes = length (dump_bytes settings state backup piece);
     }
 
--- the job once the piece was dumped
-abbrev pub with_dump : Settings → machine.State → Job → KeyRange → Job
-with_dump settings state job piece =
-    record job { hand = dumped job.hand piece state.time (dump_done settings state job piece) }
+-- the backup once the piece was dumped
+abbrev pub with_dump : Settings → machine.State → Backup → KeyRange → Backup
+with_dump settings state backup piece =
+    record backup {
+      job = dumped backup.job piece state.time (dump_done settings state backup piece);
+    }
 
-abbrev pub dump_put : Settings → machine.State → Found → KeyRange → Luck → Moved
+abbrev pub dump_put : Settings → machine.State → FoundBackup → KeyRange → Luck → Moved
 dump_put settings state found piece luck =
-    putting state (whole_name found.job.container (dump_name settings state found.job))
-    (dump_bytes settings state found.job piece)
-    (with_job found.place (with_dump settings state found.job piece) state) luck
+    putting state (whole_name found.backup.container (dump_name settings state found.backup))
+    (dump_bytes settings state found.backup piece)
+    (with_job found.place (types.Backup (with_dump settings state found.backup piece)) state) luck
 
 -- a key outside the job's ranges is named first, then one that a noted piece holds
-abbrev pub dump_tested : Settings → machine.State → Found → KeyRange → Luck → Option Bytes
+abbrev pub dump_tested : Settings → machine.State → FoundBackup → KeyRange → Luck → Option Bytes
     → Option Bytes → Moved
 dump_tested settings state found piece luck (Some key) held = refuses (OutsideRanges key) state
 dump_tested settings state found piece luck None (Some key) = refuses (Overlap key) state
 dump_tested settings state found piece luck None None = dump_put settings state found piece luck
 
-abbrev pub dump_piece : Settings → machine.State → KeyRange → Luck → Found → Moved
+abbrev pub dump_piece : Settings → machine.State → KeyRange → Luck → FoundBackup → Moved
 dump_piece settings state piece luck found =
-    dump_tested settings state found piece luck (outside found.job.hand.map.ranges piece)
-    (overlap (pieces_of found.job.hand.map.noted) piece)
+    dump_tested settings state found piece luck (outside found.backup.job.terms.ranges piece)
+    (overlap (pieces_of found.backup.job.noted) piece)

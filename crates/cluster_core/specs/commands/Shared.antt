@@ -9,6 +9,7 @@ use Rattle.cluster_core.specs.declared.event.StepFault.TheVariants.{NoMemory}
 use Rattle.cluster_core.specs.declared.refusal.Refusal.{Refusal}
 use Rattle.cluster_core.specs.declared.refusal.Refusal.TheVariants.{NoJob}
 use Rattle.cluster_core.specs.declared.refusal.Refusal.TheVariants.{WrongState}
+use Rattle.task_kinds.specs.States.{has_ended}
 use Rattle.cluster_core.specs.Jobs.{Found, newest, state_of_job}
 use Rattle.cluster_core.specs.State as machine
 use Rattle.cluster_core.specs.State.{with_put}
@@ -45,7 +46,9 @@ putting state whole bytes after luck =
 -- a command of a job that hasn't ended
 abbrev pub on_running : machine.State → (Found → Moved) → Found → Moved
 on_running state f found =
-    if found.job.hand.aborted then refuses (WrongState (state_of_job found.job)) state else f found
+    if has_ended (state_of_job found.job)
+    then refuses (WrongState (state_of_job found.job)) state
+    else f found
 
 abbrev pub on_found : machine.State → Bytes → (Found → Moved) → Option Found → Moved
 on_found state tag f None = refuses (NoJob tag) state

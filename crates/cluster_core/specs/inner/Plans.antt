@@ -12,7 +12,11 @@ use Rattle.cluster_core.specs.declared.plan.Plan.TheVariants.{Nothing, Refuse, T
 use Rattle.cluster_core.specs.declared.plan.Plan.TheVariants.{Open}
 use Rattle.cluster_core.specs.declared.plan.Running.{Running}
 use Rattle.cluster_core.specs.declared.plan.Running.TheVariants.{At, Refused}
-use Rattle.cluster_core.specs.Jobs.{Job, Found, newest}
+use Rattle.cluster_core.specs.declared.job.Job.{Job}
+use Rattle.task_kinds.specs.States.{has_ended}
+use Rattle.cluster_core.specs.Backups.{FoundBackup}
+use Rattle.cluster_core.specs.Jobs.{Found, newest, state_of_job, log_on, on_backup}
+use Rattle.workload_text.specs.declared.Side.{Side}
 use Rattle.cluster_core.specs.State.{State, with_job}
 use Rattle.cluster_core.specs.Moves.{Luck, Moved, moved}
 use Rattle.cluster_core.specs.commands.Shared.{gone_on, refuses, done, putting}
@@ -51,17 +55,14 @@ abbrev pub IsPlanOf : Settings → State → Command → Plan → Type 0
 IsPlanOf settings state command plan =
     (luck : Luck) → command_gives settings state luck command ≡ planned settings state luck plan
 
--- the plan is that of what a command does with the job that was found
-abbrev pub IsPlanAt : Settings → State → (Luck → Found → Moved) → Found → Plan → Type 0
+-- the plan is that of what a command of backups does with the job that was found
+abbrev pub IsPlanAt : Settings → State → (Luck → FoundBackup → Moved) → Found → Plan → Type 0
 IsPlanAt settings state f found plan =
-    (luck : Luck) → f luck found ≡ planned settings state luck plan
+    (luck : Luck) → on_backup (f luck) found ≡ planned settings state luck plan
 
 -- A job may take another one's place among the jobs: nothing of its log differs.
-pub record IsLike (old new : Job) : Type 0 where
-  pub side : new.side ≡ old.side
-  pub ranges : new.hand.map.ranges ≡ old.hand.map.ranges
-  pub begin : new.hand.begin ≡ old.hand.begin
-  pub aborted : new.hand.aborted ≡ old.hand.aborted
+abbrev pub IsLike : Job → Job → Type 0
+IsLike old new = (side : Side) → log_on side new ≡ log_on side old
 
 -- a file that is put is of a job that is there and may change so, and a ticket is left for it
 pub record IsFiling (state : State) (filing : Filing) : Type 0 where
@@ -83,7 +84,7 @@ IsSafe state (Open tag side container ranges) = Unit {0}
 -- refused
 abbrev pub IsRunning : State → Bytes → Running → Type 0
 IsRunning state tag (At place) =
-    (job : Job) × (slice_get state.jobs place ≡ Some job) × (job.hand.aborted ≡ false)
+    (job : Job) × (slice_get state.jobs place ≡ Some job) × (has_ended (state_of_job job) ≡ false)
     × (newest tag state.jobs ≡ Some (record { place = place; job = job }))
 IsRunning state tag (Refused refusal) =
     (f : Found → Moved) → on_job state tag f ≡ refuses refusal state

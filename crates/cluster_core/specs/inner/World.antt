@@ -23,7 +23,8 @@ use Rattle.cluster_core.specs.declared.event.Answer.{Answer}
 use Rattle.cluster_core.specs.declared.event.Answer.TheVariants.{Nothing}
 use Rattle.cluster_core.specs.declared.event.Answer.TheVariants as answers
 use Rattle.client_core.specs.Clients.{ClientState, begun_client, Try, commit_try}
-use Rattle.cluster_core.specs.Jobs.{Job, logs_of}
+use Rattle.cluster_core.specs.declared.job.Job.{Job}
+use Rattle.cluster_core.specs.Jobs.{logs_of}
 use Rattle.cluster_core.specs.State.{State, client_at}
 use Rattle.cluster_core.specs.declared.event.Event.TheVariants as events
 use Rattle.cluster_core.specs.declared.event.StepFault.{StepFault}

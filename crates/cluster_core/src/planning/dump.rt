@@ -5,16 +5,17 @@ ghost use Rattle.block_frame.specs.Profiles.{key_limit_of};
 ghost use Rattle.container_view.specs.Files as files;
 ghost use Rattle.workload_text.specs.Commands.{IsPiece};
 ghost use Rattle.database.specs.Commits.{most_version};
-ghost use Rattle.backup_core.specs.Hand.{text_of, range_name};
+ghost use Rattle.backup_core.specs.Backups.{text_of, range_name};
 ghost use Rattle.cluster_core.specs.declared.plan.Filing.{Filing};
 ghost use Rattle.cluster_core.specs.inner.Filed as filed;
 ghost use Rattle.cluster_core.specs.Jobs as jobs;
+ghost use Rattle.cluster_core.specs.declared.job.Job.TheVariants as types;
 ghost use Rattle.cluster_core.specs.inner.Plans.{IsPlanAt, IsSafe};
 ghost use Rattle.cluster_core.specs.commands.Dump.{dump_piece, dump_name, dump_bytes, piece_bytes};
 
 use crate::change::Change;
 use crate::plan::{Filing, Plan};
-use crate::{Job, Refusal, World};
+use crate::{Backup, Refusal, World};
 use backup_core::BackupJob;
 use fb_bytes::{Blob, KeyRange, Text};
 use fb_outside::Vault;
@@ -35,10 +36,10 @@ impl<V: Vault> World<V> {
             (record { place = place; job = job }) plan) }
         ensures safe { IfOk result (IsSafe self.now.state) }
     {
-        let job = self.job_at(place);
-        match job.hand().check(piece) {
+        let backup = self.backup_at(place);
+        match backup.job().check(piece) {
             Ok(()) => {
-                let filing = self.dump(place, job, piece)?;
+                let filing = self.dump(place, backup, piece)?;
                 Ok(Plan::Put(filing))
             }
             Err(MapFault::OutsideRanges { key }) => {
@@ -50,24 +51,25 @@ impl<V: Vault> World<V> {
     }
 
     // The range file of a piece, at the newest version.
-    fn dump(&self, place: usize, job: &Job, piece: &KeyRange) -> Result<Filing, AllocError>
-        requires at { slice_get self.now.state.jobs place ≡ Some job.now }
+    fn dump(&self, place: usize, backup: &Backup, piece: &KeyRange) -> Result<Filing, AllocError>
+        requires at { slice_get self.now.state.jobs place ≡ Some (types.Backup backup.now) }
         requires piece { IsPiece (key_limit_of self.now.workload.settings.block) piece.now }
         ensures file { IfOk result
             (λ filing. filing
             ≡ record {
               place = place;
-              change = filed.dump_change self.now.workload.settings self.now.state job.now piece.now;
-              whole = files.whole_name job.now.container
-                  (dump_name self.now.workload.settings self.now.state job.now);
+              change =
+                  filed.dump_change self.now.workload.settings self.now.state backup.now piece.now;
+              whole = files.whole_name backup.now.container
+                  (dump_name self.now.workload.settings self.now.state backup.now);
               bytes =
-                  dump_bytes self.now.workload.settings self.now.state job.now piece.now;
+                  dump_bytes self.now.workload.settings self.now.state backup.now piece.now;
             }) }
         ensures drawn { IfOk result (λ _. self.now.state.tickets ≤ most_version) }
     {
         let _sound = &self.workload;
-        let name = self.range_name(job.hand())?;
-        let bytes = self.range_bytes(job.side(), piece)?;
+        let name = self.range_name(backup.job())?;
+        let bytes = self.range_bytes(backup.side(), piece)?;
         let file = Done {
             name: name.copy()?,
             version: self.versions.now,
@@ -78,15 +80,15 @@ impl<V: Vault> World<V> {
             now: self.versions.now,
             file,
         };
-        self.filing(place, job, change, &name, bytes)
+        self.filing(place, backup, change, &name, bytes)
     }
 
     // The name of a range file of the newest version.
-    fn range_name(&self, hand: &BackupJob) -> Result<Text, AllocError>
-        requires { hand.now.snapshot ≤ self.now.state.time }
+    fn range_name(&self, job: &BackupJob) -> Result<Text, AllocError>
+        requires { job.now.snapshot ≤ self.now.state.time }
         ensures name { IfOk result
             (λ name. name
-            ≡ text_of (range_name hand.now self.now.state.time self.now.state.tickets
+            ≡ text_of (range_name job.now self.now.state.time self.now.state.tickets
             self.now.workload.settings.block)) }
         ensures drawn { IfOk result (λ _. self.now.state.tickets ≤ most_version) }
     {
@@ -97,7 +99,7 @@ impl<V: Vault> World<V> {
         print(
             self.alloc,
             &Name::Range {
-                snapshot: hand.snapshot_at(now),
+                snapshot: job.snapshot_at(now),
                 version: now,
                 ticket: self.tickets,
                 block: self.workload.settings.block,

@@ -52,7 +52,7 @@ impl<V: Vault> World<V> {
         ensures { result ≡ spec.is_busy (jobs.newest tag.now self.now.state.jobs) }
     {
         match self.found(tag) {
-            Some((_, job)) => !job.hand().is_aborted(),
+            Some((_, job)) => !job.state().has_ended(),
             None => false,
         }
     }

@@ -5,16 +5,18 @@ ghost use Rattle.container_view.specs.Files as files;
 ghost use Rattle.manifests.specs.Grammar.{name_for, manifest_text};
 ghost use Rattle.snapshot_plan.specs.Noted.{gap, manifest_of, most_bytes};
 ghost use Rattle.database.specs.Commits.{most_version};
-ghost use Rattle.backup_core.specs.Hand.{text_of, manifest_name};
+ghost use Rattle.backup_core.specs.Backups.{text_of, manifest_name};
 ghost use Rattle.cluster_core.specs.declared.change.Change.TheVariants as changes;
 ghost use Rattle.cluster_core.specs.declared.plan.Filing.{Filing};
 ghost use Rattle.cluster_core.specs.Jobs as jobs;
+ghost use Rattle.cluster_core.specs.declared.job.Job.TheVariants as types;
+ghost use Rattle.backup_core.specs.Backups.{map_of};
 ghost use Rattle.cluster_core.specs.inner.Plans.{IsPlanAt, IsSafe};
 ghost use Rattle.cluster_core.specs.commands.Seal.{seal_job, seal_name};
 
 use crate::change::Change;
 use crate::plan::{Filing, Plan};
-use crate::{Job, Refusal, World};
+use crate::{Backup, Refusal, World};
 use fb_bytes::Text;
 use fb_outside::Vault;
 use file_names::{Name, print};
@@ -31,10 +33,10 @@ impl<V: Vault> World<V> {
             (seal_job self.now.state) (record { place = place; job = job }) plan) }
         ensures safe { IfOk result (IsSafe self.now.state) }
     {
-        let job = &self.jobs[place];
-        match job.hand().manifest() {
+        let backup = self.backup_at(place);
+        match backup.job().manifest() {
             Ok(manifest) => {
-                let filing = self.seal(place, job, &manifest)?;
+                let filing = self.seal(place, backup, &manifest)?;
                 Ok(Plan::Put(filing))
             }
             Err(MapFault::Untiled { key }) => Ok(Plan::Refuse(Refusal::Untiled { key })),
@@ -43,24 +45,24 @@ impl<V: Vault> World<V> {
     }
 
     // The manifest of a job's snapshot.
-    fn seal(&self, place: usize, job: &Job, manifest: &Manifest) -> Result<Filing, AllocError>
-        requires at { slice_get self.now.state.jobs place ≡ Some job.now }
-        requires tiled { gap job.now.hand.map ≡ None }
-        requires manifest { manifest.now ≡ manifest_of job.now.hand.map.noted }
+    fn seal(&self, place: usize, backup: &Backup, manifest: &Manifest) -> Result<Filing, AllocError>
+        requires at { slice_get self.now.state.jobs place ≡ Some (types.Backup backup.now) }
+        requires tiled { gap (map_of backup.now.job) ≡ None }
+        requires manifest { manifest.now ≡ manifest_of backup.now.job.noted }
         requires fits { manifest.now.bytes ≤ most_bytes }
         ensures file { IfOk result
             (λ filing. filing
             ≡ record {
               place = place;
               change = changes.Seal;
-              whole = files.whole_name job.now.container (seal_name self.now.state job.now);
-              bytes = manifest_text (manifest_of job.now.hand.map.noted);
+              whole = files.whole_name backup.now.container (seal_name self.now.state backup.now);
+              bytes = manifest_text (manifest_of backup.now.job.noted);
             }) }
         ensures drawn { IfOk result (λ _. self.now.state.tickets ≤ most_version) }
     {
         let bytes = manifests::write(self.alloc, manifest)?;
         let name = self.manifest_name(manifest)?;
-        self.filing(place, job, Change::Seal, &name, bytes)
+        self.filing(place, backup, Change::Seal, &name, bytes)
     }
 
     // The name of a manifest.

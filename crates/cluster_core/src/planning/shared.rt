@@ -4,13 +4,14 @@ ghost use Rattle.std.specs.Prelude.{◌≡◌, ◌<◌, Some, option_map, slice_
 ghost use Rattle.container_view.specs.Files as files;
 ghost use Rattle.cluster_core.specs.declared.plan.Filing.{Filing};
 ghost use Rattle.cluster_core.specs.Jobs as jobs;
+ghost use Rattle.cluster_core.specs.declared.job.Job.TheVariants as types;
 ghost use Rattle.cluster_core.specs.State.{history_on};
 ghost use Rattle.cluster_core.specs.inner.Plans.{IsRunning};
 
 use crate::change::Change;
 use crate::job::newest;
 use crate::plan::{Filing, Running};
-use crate::{Job, Refusal, World};
+use crate::{Backup, Job, Refusal, World};
 use container_view::whole_name;
 use database::Db;
 use fb_bytes::{Blob, Text};
@@ -27,8 +28,8 @@ impl<V: Vault> World<V> {
             let tag = tag.copy()?;
             return Ok(Running::Refused(Refusal::NoJob { tag }));
         };
-        if job.hand().is_aborted() {
-            let state = job.state();
+        let state = job.state();
+        if state.has_ended() {
             return Ok(Running::Refused(Refusal::WrongState { state }));
         }
         Ok(Running::At(place))
@@ -43,12 +44,14 @@ impl<V: Vault> World<V> {
         Some((place, &self.jobs[place]))
     }
 
-    // The job at a place.
-    pub(crate) fn job_at(&self, place: usize) -> &Job
+    // The backup at a place. The cases of a job's type stand here alone.
+    pub(crate) fn backup_at(&self, place: usize) -> &Backup
         requires { (job : jobs.Job) × (slice_get self.now.state.jobs place ≡ Some job) }
-        ensures { slice_get self.now.state.jobs place ≡ Some result.now }
+        ensures { slice_get self.now.state.jobs place ≡ Some (types.Backup result.now) }
     {
-        &self.jobs[place]
+        match &self.jobs[place] {
+            Job::Backup(backup) => backup,
+        }
     }
 
     // The database of a side.
@@ -63,11 +66,11 @@ impl<V: Vault> World<V> {
         }
     }
 
-    // The file of a job that changes by it.
+    // The file of a backup that changes by it.
     pub(crate) fn filing(
         &self,
         place: usize,
-        job: &Job,
+        backup: &Backup,
         change: Change,
         name: &Text,
         bytes: Blob,
@@ -77,11 +80,11 @@ impl<V: Vault> World<V> {
             ≡ record {
               place = place;
               change = change;
-              whole = files.whole_name job.now.container name.now;
+              whole = files.whole_name backup.now.container name.now;
               bytes = bytes;
             }) }
     {
-        let whole = whole_name(self.alloc, job.container(), name.as_str())?;
+        let whole = whole_name(self.alloc, backup.container(), name.as_str())?;
         Ok(Filing {
             place,
             change,

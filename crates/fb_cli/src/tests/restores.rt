@@ -174,20 +174,31 @@ fn smallest(alloc: Global) -> Result<Files, AllocError> {
     Ok(files)
 }
 
-// Whether the restore of version 20 over these files ends so.
-fn ends(alloc: Global, files: &Files, status: u8, said: &[u8]) -> Result<bool, AllocError> {
-    ends_at(alloc, files, "20", status, said)
+// A name of a file, and its bytes; none where there is no such file.
+type Change<'a> = (&'a str, Option<&'a [u8]>);
+
+// The files of the smallest whole path with these changes.
+fn changed(alloc: Global, changes: &[Change]) -> Result<Files, AllocError> {
+    let mut files = smallest(alloc)?;
+    for (name, bytes) in changes {
+        match bytes {
+            Some(bytes) => put(alloc, &mut files, name, bytes)?,
+            None => files.delete(name.as_bytes()),
+        }
+    }
+    Ok(files)
 }
 
-// The same of a restore of any version.
-fn ends_at(
+// Whether the restore of a version over the changed files ends so.
+fn ends(
     alloc: Global,
-    files: &Files,
+    changes: &[Change],
     version: &str,
     status: u8,
     said: &[u8],
 ) -> Result<bool, AllocError> {
-    let vault = MemVault::new(alloc, files, &[])?;
+    let files = changed(alloc, changes)?;
+    let vault = MemVault::new(alloc, &files, &[])?;
     let mut sink = MemSink::new(alloc, 1000, &[])?;
     let exit = called(alloc, &["restore", "box", version], vault, &mut sink)?;
     Ok(exit.status == status && fb_bytes::is_same(sink.written().as_slice(), said))
@@ -313,131 +324,88 @@ const DAMAGES: &[(&str, &[u8], &[u8])] = &[
 #[test]
 fn a_damaged_file_is_named_with_its_first_fault(rt: HostRuntime) -> Result<(), Fail> {
     for (name, bytes, said) in DAMAGES {
-        assert!(rt; is_damaged(rt.alloc(), name, bytes, said)?);
+        assert!(rt; ends(rt.alloc(), &[(name, Some(bytes))], "20", 7, said)?);
     }
     Ok(())
-}
-
-// Whether the restore is refused so where a file has these bytes.
-fn is_damaged(alloc: Global, name: &str, bytes: &[u8], said: &[u8]) -> Result<bool, AllocError> {
-    let mut files = smallest(alloc)?;
-    put(alloc, &mut files, name, bytes)?;
-    ends(alloc, &files, 7, said)
-}
-
-// The files that are missing, the status, and what is said.
-const MISSING: &[(&[&str], u8, &[u8])] = &[
-    (
-        &[RANGE],
-        14,
-        b"refused missing kvranges/snapshot.20/0/range,20,1,256\n",
-    ),
-    (&[LOG], 0, b"version 20\npair a 1\npairs 1\n"),
-    (&[SEALED], 6, b"refused not-restorable none none\n"),
-    (&[RANGE, LOG, SEALED], 13, b"refused no-container\n"),
-];
-
-// The log isn't needed for the manifest's own version, and without its manifest the container
-// advertises nothing.
-#[test]
-fn a_missing_file_is_named_where_it_is_needed(rt: HostRuntime) -> Result<(), Fail> {
-    for (names, status, said) in MISSING {
-        assert!(rt; ends_without(rt.alloc(), names, *status, said)?);
-    }
-    Ok(())
-}
-
-// Whether the restore ends so where these files are missing.
-fn ends_without(
-    alloc: Global,
-    names: &[&str],
-    status: u8,
-    said: &[u8],
-) -> Result<bool, AllocError> {
-    let mut files = smallest(alloc)?;
-    for name in names {
-        files.delete(name.as_bytes());
-    }
-    ends(alloc, &files, status, said)
-}
-
-// A container with a second range file of these bytes beside that of the smallest whole path.
-fn with_second(alloc: Global, begin: &[u8], second: &[u8]) -> Result<Files, AllocError> {
-    let mut files = Files::new(alloc);
-    put(alloc, &mut files, RANGE, begin)?;
-    put(
-        alloc,
-        &mut files,
-        "box/kvranges/snapshot.20/0/range,20,2,256",
-        second,
-    )?;
-    put(
-        alloc,
-        &mut files,
-        "box/snapshots/snapshot,20,20,46,3",
-        b"{\"beginVersion\":20,\"endVersion\":20,\"files\":[\"kvranges/snapshot.20/0/range,20,1,256\",\"kvranges/snapshot.20/0/range,20,2,256\"],\"format\":1,\"totalBytes\":46}",
-    )?;
-    Ok(files)
 }
 
 // The range file from `a` to `b` without pairs.
 const INNER: &[u8] = b"\xe9\x03\x00\x00\x00\x00\x00\x01a\x00\x00\x00\x01b";
 
-// Two range files, and what is said.
-const OVERLAPPING: &[(&[u8], &[u8], &[u8])] = &[
+const SECOND: &str = "box/kvranges/snapshot.20/0/range,20,2,256";
+
+// The manifest of two range files.
+const BOTH_SEALED: Change<'static> = (
+    "box/snapshots/snapshot,20,20,46,3",
+    Some(
+        b"{\"beginVersion\":20,\"endVersion\":20,\"files\":[\"kvranges/snapshot.20/0/range,20,1,256\",\"kvranges/snapshot.20/0/range,20,2,256\"],\"format\":1,\"totalBytes\":46}",
+    ),
+);
+
+// A log that overlaps with the one of the smallest whole path, and ends later.
+const LONGER: Change<'static> = (
+    "box/logs/0/log,15,31,4,256",
+    Some(
+        b"\xd1\x07\x00\x00\x00\x00\x00\x0c\x00\x00\x00\x00\x00\x00\x00\x14\x00\x00\x00\x00\x00\x00\x00\x1a\xbd\x1b\x00\x00\x00\x00\x00\x00\x0e\x00\x00\x00\x00\x00\x00\x00\x01\x00\x00\x00\x01\x00\x00\x00a9\x00\x00\x00\x0c\x00\x00\x00\x00\x00\x00\x00\x19\x00\x00\x00\x00\x00\x00\x00\x1a\xbd\x1b\x00\x00\x00\x00\x00\x00\x0e\x00\x00\x00\x00\x00\x00\x00\x01\x00\x00\x00\x01\x00\x00\x00a2\x00\x00\x00\x0c\x00\x00\x00\x00\x00\x00\x00\x1a\x00\x00\x00\x00\x00\x00\x00\x1a\xbd\x1b\x00\x00\x00\x00\x00\x00\x0e\x00\x00\x00\x00\x00\x00\x00\x01\x00\x00\x00\x01\x00\x00\x00a3",
+    ),
+);
+
+// Changes of the smallest whole path, the version that is restored, the status, and what is said. A
+// missing file is named where it is needed: the log isn't for the manifest's own version, and without
+// its manifest the container advertises nothing. Of two range files that overlap the later one by begin
+// keys is named, of equal begins the manifest's later. Of two logs that overlap the longer is taken.
+const CHANGES: &[(&[Change<'static>], &str, u8, &[u8])] = &[
     (
-        RANGE_FILE,
-        INNER,
+        &[(RANGE, None)],
+        "20",
+        14,
+        b"refused missing kvranges/snapshot.20/0/range,20,1,256\n",
+    ),
+    (&[(LOG, None)], "20", 0, b"version 20\npair a 1\npairs 1\n"),
+    (
+        &[(SEALED, None)],
+        "20",
+        6,
+        b"refused not-restorable none none\n",
+    ),
+    (
+        &[(RANGE, None), (LOG, None), (SEALED, None)],
+        "20",
+        13,
+        b"refused no-container\n",
+    ),
+    (
+        &[(SECOND, Some(INNER)), (SEALED, None), BOTH_SEALED],
+        "20",
+        7,
         b"refused damaged kvranges/snapshot.20/0/range,20,2,256 overlap a\n",
     ),
     (
-        INNER,
-        RANGE_FILE,
+        &[
+            (RANGE, Some(INNER)),
+            (SECOND, Some(RANGE_FILE)),
+            (SEALED, None),
+            BOTH_SEALED,
+        ],
+        "20",
+        7,
         b"refused damaged kvranges/snapshot.20/0/range,20,1,256 overlap a\n",
     ),
     (
-        RANGE_FILE,
-        RANGE_FILE,
+        &[(SECOND, Some(RANGE_FILE)), (SEALED, None), BOTH_SEALED],
+        "20",
+        7,
         b"refused damaged kvranges/snapshot.20/0/range,20,2,256 overlap \\e\n",
     ),
+    (&[LONGER], "25", 0, b"version 25\npair a 2\npairs 1\n"),
 ];
 
-// Of two files that overlap the later one by begin keys is named, of equal begins the manifest's later.
 #[test]
-fn the_later_of_two_overlapping_files_is_damage(rt: HostRuntime) -> Result<(), Fail> {
-    for (first, second, said) in OVERLAPPING {
-        assert!(rt; is_overlapping(rt.alloc(), first, second, said)?);
+fn a_changed_container_is_restored_or_refused(rt: HostRuntime) -> Result<(), Fail> {
+    for (changes, version, status, said) in CHANGES {
+        assert!(rt; ends(rt.alloc(), changes, version, *status, said)?);
     }
     Ok(())
-}
-
-// Whether the restore is refused so over two range files of these bytes.
-fn is_overlapping(
-    alloc: Global,
-    first: &[u8],
-    second: &[u8],
-    said: &[u8],
-) -> Result<bool, AllocError> {
-    let files = with_second(alloc, first, second)?;
-    ends(alloc, &files, 7, said)
-}
-
-// It gives all the versions that it has.
-#[test]
-fn of_overlapping_logs_the_longer_is_taken(rt: HostRuntime) -> Result<(), Fail> {
-    assert!(rt; takes_the_longer_log(rt.alloc())?);
-    Ok(())
-}
-
-fn takes_the_longer_log(alloc: Global) -> Result<bool, AllocError> {
-    let mut files = smallest(alloc)?;
-    put(
-        alloc,
-        &mut files,
-        "box/logs/0/log,15,31,4,256",
-        b"\xd1\x07\x00\x00\x00\x00\x00\x0c\x00\x00\x00\x00\x00\x00\x00\x14\x00\x00\x00\x00\x00\x00\x00\x1a\xbd\x1b\x00\x00\x00\x00\x00\x00\x0e\x00\x00\x00\x00\x00\x00\x00\x01\x00\x00\x00\x01\x00\x00\x00a9\x00\x00\x00\x0c\x00\x00\x00\x00\x00\x00\x00\x19\x00\x00\x00\x00\x00\x00\x00\x1a\xbd\x1b\x00\x00\x00\x00\x00\x00\x0e\x00\x00\x00\x00\x00\x00\x00\x01\x00\x00\x00\x01\x00\x00\x00a2\x00\x00\x00\x0c\x00\x00\x00\x00\x00\x00\x00\x1a\x00\x00\x00\x00\x00\x00\x00\x1a\xbd\x1b\x00\x00\x00\x00\x00\x00\x0e\x00\x00\x00\x00\x00\x00\x00\x01\x00\x00\x00\x01\x00\x00\x00a3",
-    )?;
-    ends_at(alloc, &files, "25", 0, b"version 25\npair a 2\npairs 1\n")
 }
 
 #[test]

@@ -5,8 +5,10 @@ use Rattle.cluster_core.specs.declared.event.Event.TheVariants as events
 use Rattle.cluster_core.specs.declared.event.StepFault.TheVariants.{VersionsSpent, NoMemory}
 use Rattle.cluster_core.specs.declared.plan.Plan.TheVariants as plans
 use Rattle.database.specs.Commits.{most_version}
-use Rattle.backup_core.specs.Hand.{BackupJob}
+use Rattle.backup_core.specs.Backups.{BackupJob}
 use Rattle.cluster_core.specs.commands.Open.{new_job}
+use Rattle.cluster_core.specs.declared.job.Job.TheVariants as types
+use Rattle.cluster_core.specs.Backups.{Backup}
 use Rattle.cluster_core.specs.Jobs.{Job}
 use Rattle.cluster_core.specs.Moves.{Starved, moved}
 use Rattle.cluster_core.specs.Step.{step}
@@ -17,10 +19,10 @@ use Rattle.cluster_core.proofs.plans.Start.{IsStart, next_same, none_next, next_
 use Rattle.cluster_core.proofs.world.World.start.Goals as goal
 
 pub begin_log-requires-clause-src : goal.begin_log-requires-clause-src
-begin_log-requires-clause-src g c = next_logs_none Src c.self.inside.jobs.items c.self.inside.src.logs (c.len-count.result + 1) c.self.invariant.src_logs (ap (λ (n : ℕ). n + 1) (c.len-count.ensures ∙ c.self.inside.jobs.ok.0))
+begin_log-requires-clause-src g c = next_logs_none Src c.self.inside.jobs.items c.self.inside.src.logs (c.len-count.result + 1) c.self.invariant.sound.jobs.numbered c.self.invariant.src_logs (ap (λ (n : ℕ). n + 1) (c.len-count.ensures ∙ c.self.inside.jobs.ok.0))
 
 pub begin_log-requires-clause-dst : goal.begin_log-requires-clause-dst
-begin_log-requires-clause-dst g c = next_logs_none Dst c.self.inside.jobs.items c.self.inside.dst.logs (c.len-count.result + 1) c.self.invariant.dst_logs (ap (λ (n : ℕ). n + 1) (c.len-count.ensures ∙ c.self.inside.jobs.ok.0))
+begin_log-requires-clause-dst g c = next_logs_none Dst c.self.inside.jobs.items c.self.inside.dst.logs (c.len-count.result + 1) c.self.invariant.sound.jobs.numbered c.self.invariant.dst_logs (ap (λ (n : ℕ). n + 1) (c.len-count.ensures ∙ c.self.inside.jobs.ok.0))
 
 pub returns-in_default-clause-step : goal.returns-in_default-clause-step
 returns-in_default-clause-step g c =
@@ -41,7 +43,7 @@ invariant_of-self-in-Ok-begin_log g c =
       dst_is = c.in-Ok-begin_log.ensures.dst;
       version_is = c.in-Ok-begin_log.ensures.version;
       time = c.in-Ok-begin_log.ensures.time;
-      jobs_are = c.in-Ok.ensures.items ∙ ap (λ (j : Job). c.self.inside.jobs.items ++ j ∷ []) (c.new-job.ensures ∙ ap (λ (h : BackupJob). record { tag = c.args.tag; side = c.args.side; container = c.args.container; hand = h }) c.in_ok-hand.ensures ∙ ap (new_job c.args.tag c.args.side c.args.container c.args.ranges.now) (next_same c.self.inside.versions.now c.self.inside.versions.pace c.in-Some.version c.in-Ok-begin_log.field-0 c.next.result c.next.ensures c.in-Some.is c.in-Ok-begin_log.ensures.version));
+      jobs_are = c.in-Ok.ensures.items ∙ ap (λ (j : Job). c.self.inside.jobs.items ++ j ∷ []) (ap (λ (b : Backup). types.Backup b) (c.new-backup.ensures ∙ ap (λ (h : BackupJob). record { tag = c.args.tag; side = c.args.side; container = c.args.container; job = h }) c.in_ok-job.ensures) ∙ ap (λ (n : ℕ). new_job (n + 1) c.args.tag c.args.side c.args.container c.args.ranges.now c.in-Some.version) (c.len-count.ensures ∙ c.self.inside.jobs.ok.0) ∙ ap (new_job (length c.self.inside.jobs.items + 1) c.args.tag c.args.side c.args.container c.args.ranges.now) (next_same c.self.inside.versions.now c.self.inside.versions.pace c.in-Some.version c.in-Ok-begin_log.field-0 c.next.result c.next.ensures c.in-Some.is c.in-Ok-begin_log.ensures.version));
       next_is = c.next_place-self-inside.ensures room;
     } in
     start_world c.self.inside.workload c.args.side c.args.tag c.args.container c.args.ranges.now c.self.inside.src c.self.inside.dst c.begin_log.new.src c.begin_log.new.dst c.self.inside.versions c.begin_log.new.versions c.self.inside.clients.items (record { jobs = c.self.inside.jobs.items; place = c.self.inside.place; tickets = c.self.inside.tickets }) (g.V.Vault.files c.self.inside.vault) c.push.new.self.items c.next_place-self-inside.result c.in-Ok-begin_log.field-0 c.self.invariant start plan listed
@@ -58,15 +60,15 @@ returns-in-Ok-begin_log-clause-step g c =
       dst_is = c.in-Ok-begin_log.ensures.dst;
       version_is = c.in-Ok-begin_log.ensures.version;
       time = c.in-Ok-begin_log.ensures.time;
-      jobs_are = c.in-Ok.ensures.items ∙ ap (λ (j : Job). c.self.inside.jobs.items ++ j ∷ []) (c.new-job.ensures ∙ ap (λ (h : BackupJob). record { tag = c.args.tag; side = c.args.side; container = c.args.container; hand = h }) c.in_ok-hand.ensures ∙ ap (new_job c.args.tag c.args.side c.args.container c.args.ranges.now) (next_same c.self.inside.versions.now c.self.inside.versions.pace c.in-Some.version c.in-Ok-begin_log.field-0 c.next.result c.next.ensures c.in-Some.is c.in-Ok-begin_log.ensures.version));
+      jobs_are = c.in-Ok.ensures.items ∙ ap (λ (j : Job). c.self.inside.jobs.items ++ j ∷ []) (ap (λ (b : Backup). types.Backup b) (c.new-backup.ensures ∙ ap (λ (h : BackupJob). record { tag = c.args.tag; side = c.args.side; container = c.args.container; job = h }) c.in_ok-job.ensures) ∙ ap (λ (n : ℕ). new_job (n + 1) c.args.tag c.args.side c.args.container c.args.ranges.now c.in-Some.version) (c.len-count.ensures ∙ c.self.inside.jobs.ok.0) ∙ ap (new_job (length c.self.inside.jobs.items + 1) c.args.tag c.args.side c.args.container c.args.ranges.now) (next_same c.self.inside.versions.now c.self.inside.versions.pace c.in-Some.version c.in-Ok-begin_log.field-0 c.next.result c.next.ensures c.in-Some.is c.in-Ok-begin_log.ensures.version));
       next_is = c.next_place-self-inside.ensures room;
     } in
     let s = start_done c.self.inside.workload c.args.side c.args.tag c.args.container c.args.ranges.now c.self.inside.src c.self.inside.dst c.begin_log.new.src c.begin_log.new.dst c.self.inside.versions c.begin_log.new.versions c.self.inside.clients.items (record { jobs = c.self.inside.jobs.items; place = c.self.inside.place; tickets = c.self.inside.tickets }) (g.V.Vault.files c.self.inside.vault) c.push.new.self.items c.next_place-self-inside.result c.in-Ok-begin_log.field-0 c.self.invariant.pace start plan listed in
     (s.0, subst (λ (seen : Seen). step seen.workload seen.state events.Command s.0 ≡ moved (Ok answers.Done) (state_of c.self.inside.clients.items c.begin_log.new.src c.begin_log.new.dst c.begin_log.new.versions (record { jobs = c.push.new.self.items; place = c.next_place-self-inside.result; tickets = c.self.inside.tickets }) (g.V.Vault.files c.self.inside.vault))) c.self.view_is s.1)
 
 pub invariant_of-self-in-Err : goal.invariant_of-self-in-Err
-invariant_of-self-in-Err g c = start_undone_world c.self.inside.workload c.self.inside.src c.self.inside.dst c.begin_log.new.src c.begin_log.new.dst c.self.inside.versions c.begin_log.new.versions c.self.inside.clients.items (record { jobs = c.self.inside.jobs.items; place = c.self.inside.place; tickets = c.self.inside.tickets }) (g.V.Vault.files c.self.inside.vault) c.truncate.new.self.items c.in-Err.ensures.err (c.truncate.ensures.items ∙ ap (take c.len-count.result) c.in-Ok.ensures.items ∙ taken_back c.self.inside.jobs.items c.len-count.result c.new-job.result (c.len-count.ensures ∙ c.self.inside.jobs.ok.0)) c.self.invariant
+invariant_of-self-in-Err g c = start_undone_world c.self.inside.workload c.self.inside.src c.self.inside.dst c.begin_log.new.src c.begin_log.new.dst c.self.inside.versions c.begin_log.new.versions c.self.inside.clients.items (record { jobs = c.self.inside.jobs.items; place = c.self.inside.place; tickets = c.self.inside.tickets }) (g.V.Vault.files c.self.inside.vault) c.truncate.new.self.items c.in-Err.ensures.err (c.truncate.ensures.items ∙ ap (take c.len-count.result) c.in-Ok.ensures.items ∙ taken_back c.self.inside.jobs.items c.len-count.result (types.Backup c.new-backup.result) (c.len-count.ensures ∙ c.self.inside.jobs.ok.0)) c.self.invariant
 
 pub returns-in-Err-clause-step : goal.returns-in-Err-clause-step
 returns-in-Err-clause-step g c =
-    (Starved, ap (moved (Err NoMemory)) (ap (λ (s : Seen). s.state) (sym c.self.view_is) ∙ sym (start_undone c.self.inside.src c.self.inside.dst c.begin_log.new.src c.begin_log.new.dst c.self.inside.versions c.begin_log.new.versions c.self.inside.clients.items (record { jobs = c.self.inside.jobs.items; place = c.self.inside.place; tickets = c.self.inside.tickets }) (g.V.Vault.files c.self.inside.vault) c.truncate.new.self.items c.in-Err.ensures.err (c.truncate.ensures.items ∙ ap (take c.len-count.result) c.in-Ok.ensures.items ∙ taken_back c.self.inside.jobs.items c.len-count.result c.new-job.result (c.len-count.ensures ∙ c.self.inside.jobs.ok.0)))))
+    (Starved, ap (moved (Err NoMemory)) (ap (λ (s : Seen). s.state) (sym c.self.view_is) ∙ sym (start_undone c.self.inside.src c.self.inside.dst c.begin_log.new.src c.begin_log.new.dst c.self.inside.versions c.begin_log.new.versions c.self.inside.clients.items (record { jobs = c.self.inside.jobs.items; place = c.self.inside.place; tickets = c.self.inside.tickets }) (g.V.Vault.files c.self.inside.vault) c.truncate.new.self.items c.in-Err.ensures.err (c.truncate.ensures.items ∙ ap (take c.len-count.result) c.in-Ok.ensures.items ∙ taken_back c.self.inside.jobs.items c.len-count.result (types.Backup c.new-backup.result) (c.len-count.ensures ∙ c.self.inside.jobs.ok.0)))))

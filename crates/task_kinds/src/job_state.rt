@@ -1,3 +1,6 @@
+ghost use Rattle.std.specs.Prelude.{◌≡◌};
+ghost use Rattle.task_kinds.specs.States as spec;
+
 use fb_bytes::TryCopy;
 use std::alloc::AllocError;
 
@@ -12,6 +15,17 @@ pub enum JobState {
     Completed,
     Aborted,
     Failed,
+}
+
+impl JobState {
+    pub fn has_ended(self) -> bool
+        ensures { result ≡ spec.has_ended self }
+    {
+        match self {
+            JobState::Submitted | JobState::Running | JobState::RunningDifferential => false,
+            JobState::Completed | JobState::Aborted | JobState::Failed => true,
+        }
+    }
 }
 
 impl TryCopy for JobState {

@@ -1,63 +1,103 @@
-//! What a hand job keeps between its calls.
+//! What a backup keeps between its calls.
 
 ghost use Rattle.std.specs.Prelude.{◌≡◌, ◌+◌, ◌<◌, ◌≤◌, ◌^◌, false, Some, None, IfOk, IfErr, OnOk, OnErr, option_map, ◌⊎◌};
 ghost use Rattle.fb_bytes.specs.Keys.{is_backwards};
 ghost use Rattle.manifests.specs.Grammar.{name_for};
 ghost use Rattle.snapshot_plan.specs.Noted.{fault_of, gap, manifest_of, most_bytes, pieces_of};
 ghost use Rattle.snapshot_plan.specs.Pieces.{ArePieces};
-ghost use Rattle.backup_core.specs.Hand as spec;
+ghost use Rattle.backup_core.specs.Backups as spec;
 
+use crate::Mode;
 use fb_bytes::{KeyRange, Ranges};
 use manifests::Manifest;
 use snapshot_plan::{Done, FileMap, MapFault, Noted};
 use std::alloc::{AllocError, Global};
 use std::marker::Model;
+use task_kinds::JobState;
 
-/// A job whose dumps, cuts and seals are called one by one: what is dumped of its present snapshot,
-/// and how far it logged.
+/// A backup: what is dumped of its present snapshot, and how far it logged.
 #[derive(Debug, Drop)]
 pub struct BackupJob {
+    number: u64,
+    mode: Mode,
+    state: JobState,
     map: FileMap,
     begin: u64,
+    erased: u64,
     next: u64,
     snapshot: u64,
-    aborted: bool,
 }
 
 impl Model for BackupJob {
-    ghost use Rattle.backup_core.specs.Hand as spec;
+    ghost use Rattle.backup_core.specs.Backups as spec;
 
     ghost Value = { spec.BackupJob };
 
-    ghost view = { λ h. record { map = h.map; begin = h.begin; next = h.next; snapshot = h.snapshot; aborted = h.aborted } };
+    ghost view = { λ job. record {
+      terms = record { number = job.number; mode = job.mode; ranges = job.map.ranges };
+      state = job.state;
+      begin = job.begin;
+      erased = job.erased;
+      next = job.next;
+      snapshot = job.snapshot;
+      noted = job.map.noted;
+    } };
 }
 
 impl BackupJob {
     /// A job of these ranges that logs from the version on.
-    pub fn new(alloc: Global, ranges: &Ranges, version: u64) -> Result<Self, AllocError>
-        ensures { IfOk result (λ job. job ≡ spec.opened ranges.now version) }
+    pub fn new(
+        alloc: Global,
+        number: u64,
+        mode: Mode,
+        ranges: &Ranges,
+        version: u64,
+    ) -> Result<Self, AllocError>
+        ensures { IfOk result (λ job. job ≡ spec.opened number mode ranges.now version) }
     {
         let map = FileMap::new(alloc, ranges)?;
         Ok(BackupJob {
+            number,
+            mode,
+            state: JobState::Running,
             map,
             begin: version,
+            erased: version,
             next: version,
             snapshot: 0,
-            aborted: false,
         })
+    }
+
+    /// Its number among the jobs.
+    pub fn number(&self) -> u64
+        ensures { result ≡ self.now.terms.number }
+    {
+        self.number
+    }
+
+    pub fn mode(&self) -> Mode
+        ensures { result ≡ self.now.terms.mode }
+    {
+        self.mode
+    }
+
+    pub fn state(&self) -> JobState
+        ensures { result ≡ self.now.state }
+    {
+        self.state
     }
 
     /// The ranges that it backs up.
     pub fn ranges(&self) -> &Ranges
-        ensures { result.now ≡ self.now.map.ranges }
+        ensures { result.now ≡ self.now.terms.ranges }
     {
         self.map.ranges()
     }
 
     /// The pieces that are noted for the present snapshot, in key order.
     pub fn noted(&self) -> &[Noted]
-        ensures same { result.now ≡ self.now.map.noted }
-        ensures pieces { ArePieces (pieces_of self.now.map.noted) }
+        ensures same { result.now ≡ self.now.noted }
+        ensures pieces { ArePieces (pieces_of self.now.noted) }
     {
         self.map.noted()
     }
@@ -76,11 +116,11 @@ impl BackupJob {
         self.next
     }
 
-    /// Whether it was given up.
-    pub fn is_aborted(&self) -> bool
-        ensures { result ≡ self.now.aborted }
+    /// The version from which on its log is kept.
+    pub fn erased(&self) -> u64
+        ensures { result ≡ self.now.erased }
     {
-        self.aborted
+        self.erased
     }
 
     /// The number of the snapshot that a dump at this version belongs to.
@@ -96,9 +136,9 @@ impl BackupJob {
 
     /// Why the piece can't be dumped, if it can't.
     pub fn check(&self, piece: &KeyRange) -> Result<(), MapFault>
-        ensures ok { OnOk result (fault_of self.now.map piece.now ≡ None) }
+        ensures ok { OnOk result (fault_of (spec.map_of self.now) piece.now ≡ None) }
         ensures err { IfErr result (λ fault. (fault ≡ MapFault.NoMemory)
-            ⊎ (fault_of self.now.map piece.now ≡ Some fault)) }
+            ⊎ (fault_of (spec.map_of self.now) piece.now ≡ Some fault)) }
     {
         self.map.check(piece)
     }
@@ -106,9 +146,9 @@ impl BackupJob {
     /// A piece was dumped at this version into the file. Where it is refused, the job stays as it was.
     pub fn dump(&mut self, piece: KeyRange, now: u64, file: Done) -> Result<(), MapFault>
         requires { is_backwards piece ≡ false }
-        ensures ok { OnOk result (fault_of self.old.map piece ≡ None) }
+        ensures ok { OnOk result (fault_of (spec.map_of self.old) piece ≡ None) }
         ensures err { IfErr result (λ fault. (fault ≡ MapFault.NoMemory)
-            ⊎ (fault_of self.old.map piece ≡ Some fault)) }
+            ⊎ (fault_of (spec.map_of self.old) piece ≡ Some fault)) }
         ensures dumped { OnOk result (self.new ≡ spec.dumped self.old piece now file) }
         ensures refused { OnErr result (self.new ≡ self.old) }
     {
@@ -136,11 +176,11 @@ impl BackupJob {
 
     /// The manifest of the present snapshot, once its pieces tile the ranges.
     pub fn manifest(&self) -> Result<Manifest, MapFault>
-        ensures ok { IfOk result (λ manifest. (gap self.now.map ≡ None)
-            × (manifest ≡ manifest_of self.now.map.noted)) }
+        ensures ok { IfOk result (λ manifest. (gap (spec.map_of self.now) ≡ None)
+            × (manifest ≡ manifest_of self.now.noted)) }
         ensures fits { IfOk result (λ manifest. manifest.bytes ≤ most_bytes) }
         ensures err { IfErr result (λ fault. (fault ≡ MapFault.NoMemory)
-            ⊎ (option_map (λ key. MapFault.Untiled key) (gap self.now.map) ≡ Some fault)) }
+            ⊎ (option_map (λ key. MapFault.Untiled key) (gap (spec.map_of self.now)) ≡ Some fault)) }
     {
         self.map.manifest()
     }
@@ -164,6 +204,6 @@ impl BackupJob {
     pub fn abort(&mut self)
         ensures { self.new ≡ spec.aborted_job self.old }
     {
-        self.aborted = true;
+        self.state = JobState::Aborted;
     }
 }
