@@ -21,6 +21,15 @@ use Rattle.fb_cli.specs.declared.fault.Fault.TheVariants.{VaultFault, NoMemory}
 use Rattle.fb_cli.specs.Outside.{store_change}
 use Rattle.fb_cli.specs.Restores.{refusal_of, HasCause, IsOfRestore, Restores}
 
+-- what reading stopped at is the cause of the refusal
+pub its_cause : {A : Type 0} (fault : ViewFault) (reading : Result A ViewFault) → Fails fault reading → HasCause reading (Some (refusal_of fault))
+its_cause fault (Ok set) (inl e) = inr (inl (ap (λ (f : ViewFault). Some (refusal_of f)) e))
+its_cause fault (Ok set) (inr (inl e)) = inr (inr (ap (λ (f : ViewFault). Some (refusal_of f)) e))
+its_cause fault (Ok set) (inr (inr e)) = cc
+its_cause fault (Err found) (inl e) = inr (inl (ap (λ (f : ViewFault). Some (refusal_of f)) e))
+its_cause fault (Err found) (inr (inl e)) = inr (inr (ap (λ (f : ViewFault). Some (refusal_of f)) e))
+its_cause fault (Err found) (inr (inr e)) = let s : found ≡ fault = cc in inl (ap (λ (f : ViewFault). Some (refusal_of f)) (sym s))
+
 module _ (container : Bytes) (version : ℕ) (files files' : Option (List File)) (f f' : ℕ) (law : RestoreLaw) (ordered : (told : List File) → files ≡ Some told → AreFiles told) (same : files' ≡ files) where
   one_set : (a b : Loaded) (reading : Result Loaded ViewFault) → reading ≡ Ok a → reading ≡ Ok b → a ≡ b
   one_set a b (Ok set) p q = let l : set ≡ a = cc in let r : set ≡ b = cc in sym l ∙ r
@@ -44,14 +53,6 @@ module _ (container : Bytes) (version : ℕ) (files files' : Option (List File))
         inl (refl, rising, λ key. sym (l.same key) ∙ ap (λ (x : Loaded). loaded_at x version key) (one_set l.set f.set _ l.is f.is) ∙ f.same key);
     same = same;
   }
-
-  its_cause : (fault : ViewFault) (reading : Result Loaded ViewFault) → Fails fault reading → HasCause reading (Some (refusal_of fault))
-  its_cause fault (Ok set) (inl e) = inr (inl (ap (λ (f : ViewFault). Some (refusal_of f)) e))
-  its_cause fault (Ok set) (inr (inl e)) = inr (inr (ap (λ (f : ViewFault). Some (refusal_of f)) e))
-  its_cause fault (Ok set) (inr (inr e)) = cc
-  its_cause fault (Err found) (inl e) = inr (inl (ap (λ (f : ViewFault). Some (refusal_of f)) e))
-  its_cause fault (Err found) (inr (inl e)) = inr (inr (ap (λ (f : ViewFault). Some (refusal_of f)) e))
-  its_cause fault (Err found) (inr (inr e)) = let s : found ≡ fault = cc in inl (ap (λ (f : ViewFault). Some (refusal_of f)) (sym s))
 
   its_kind : (fault : ViewFault) → IsOfRestore (Some (refusal_of fault))
   its_kind views.NoContainer = tt

@@ -5,4 +5,6 @@ pub mod Runs
 pub mod Fronts
 pub mod Replays
 pub mod Restores
+pub mod Describes
 pub mod Shows
+pub mod inner

@@ -28,7 +28,7 @@ TellsPairs version state (reports.Restored told) =
     (told.version ≡ version)
     × AreRising told.pairs
     × ((key : Bytes) → value_of told.pairs key ≡ state key)
-TellsPairs version state (reports.Run run) = ⊥
+TellsPairs version state report = ⊥
 
 -- The report tells what the container means at the version, by the bytes of its files.
 pub record TellsMeaning
@@ -53,8 +53,8 @@ refusal_of views.NoMemory = NoMemory
 
 -- The first fault that reading meets is the refusal. A fault of the store and want of memory may
 -- come in its place, and in that of a report.
-abbrev pub HasCause : Result Loaded ViewFault → Option Fault → Type 0
-HasCause (Ok set) fault =
+abbrev pub HasCause : {A : Type 0} → Result A ViewFault → Option Fault → Type 0
+HasCause (Ok read) fault =
     (fault ≡ None) ⊎ ((fault ≡ Some VaultFault) ⊎ (fault ≡ Some NoMemory))
 HasCause (Err found) fault =
     (fault ≡ Some (refusal_of found)) ⊎ ((fault ≡ Some VaultFault) ⊎ (fault ≡ Some NoMemory))

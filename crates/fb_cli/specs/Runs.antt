@@ -147,9 +147,9 @@ pub record IsRun (workload : Workload) (store : Store) (report : RunReport) : Ty
 -- a report of a run of the workload
 abbrev pub IsRunReport : Workload → Store → Report → Type 0
 IsRunReport workload store (reports.Run report) = IsRun workload store report
-IsRunReport workload store (reports.Restored report) = ⊥
+IsRunReport workload store report = ⊥
 
 -- the refusal by the answer of a report's last event
 abbrev pub fault_in : Report → Option Fault
 fault_in (reports.Run report) = last_fault report.lines
-fault_in (reports.Restored report) = None
+fault_in report = None

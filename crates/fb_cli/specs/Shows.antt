@@ -14,6 +14,7 @@ use Rattle.fb_cli.specs.Faults.{status_of, refusal_line}
 use Rattle.fb_cli.specs.Outside.{Stream, Store, IsLeft}
 use Rattle.fb_cli.specs.Replays.{Replays}
 use Rattle.fb_cli.specs.Restores.{Restores}
+use Rattle.fb_cli.specs.Describes.{Describes}
 
 -- ---- words
 
@@ -21,6 +22,7 @@ use Rattle.fb_cli.specs.Restores.{Restores}
 pub data Request : Type 0 where
   Replay : Request
   Restore : (container : Bytes) (version : ℕ) → Request
+  Describe : (container : Bytes) → Request
   Unknown : Request
 
 -- a version's word: its number in decimal, at most 2^62
@@ -32,9 +34,14 @@ abbrev pub restore_at : Bytes → Option ℕ → Request
 restore_at container None = Unknown
 restore_at container (Some version) = Restore container version
 
--- A replay is `replay` alone; a restore is `restore`, a container and a version.
+-- A replay is `replay` alone; a restore is `restore`, a container and a version; a description is
+-- `describe` and a container.
 abbrev pub request_of : List Bytes → Request
 request_of (word ∷ []) = if is_same word (codes "replay") then Replay else Unknown
+request_of (word ∷ container ∷ []) =
+    if is_same word (codes "describe") && is_container_name container
+    then Describe container
+    else Unknown
 request_of (word ∷ container ∷ version ∷ []) =
     if is_same word (codes "restore") && is_container_name container
     then restore_at container (version_of version)
@@ -54,6 +61,16 @@ pub record IsRestore
   pub restores : Restores container version store report fault
   pub unread : IsLeft source
 
+-- A description; the source isn't read.
+pub record IsDescribe
+    (container : Bytes)
+    (source : Stream)
+    (store : Store)
+    (report : Option Report)
+    (fault : Option Fault) : Type 0 where
+  pub describes : Describes container store report fault
+  pub unread : IsLeft source
+
 -- Other words aren't built, whatever the source has; it isn't read.
 pub record IsUnknown
     (source : Stream)
@@ -68,6 +85,8 @@ abbrev pub Does : Request → Stream → Store → Option Report → Option Faul
 Does Replay source store report fault = Replays source store report fault
 Does (Restore container version) source store report fault =
     IsRestore container version source store report fault
+Does (Describe container) source store report fault =
+    IsDescribe container source store report fault
 Does Unknown source store report fault = IsUnknown source report fault
 
 -- ---- what is written

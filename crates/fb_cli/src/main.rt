@@ -1,7 +1,8 @@
-//! The program: reads the words, plays a workload over a file store or restores a container of it,
-//! and prints the report.
+//! The program: reads the words, plays a workload over a file store, restores a container of it or
+//! tells what a container has, and prints the report.
 #![tactic(auto)]
 
+mod describe;
 mod fault;
 mod replay;
 mod restore;

@@ -1,9 +1,11 @@
-ghost use Rattle.std.specs.Prelude.{◌≡◌, [], ◌∷◌, Option, Some, None, IfOk, IfSome, IsTrue, ◌↔◌, ◌⊎◌};
+ghost use Rattle.std.specs.Prelude.{◌≡◌, [], ◌∷◌, Option, IfOk};
 ghost use Rattle.fb_cli.specs.declared.fault.Fault.{Fault};
 ghost use Rattle.fb_cli.specs.Outside.{stream_change, store_change};
 ghost use Rattle.fb_cli.specs.Replays.{OwesStore};
-ghost use Rattle.fb_cli.specs.Shows.{Replay, Restore, Unknown, request_of, Does, Shows, shown, report_part};
+ghost use Rattle.fb_cli.specs.inner.Words.{request_in};
+ghost use Rattle.fb_cli.specs.Shows.{request_of, Does, Shows, shown, report_part};
 
+use crate::describe::describe_words;
 use crate::fault::{Fault, push_refusal, status_of};
 use crate::replay::{Ended, refused, replay};
 use crate::restore::restore_words;
@@ -69,47 +71,63 @@ fn command<S: Source, V: Vault>(alloc: Global, words: &[Text], source: &mut S, v
         (store_change (V.files vault) (V.files result.vault) (V.faults vault)
         (V.faults result.vault)) result.fault }
 {
-    if is_replay(words) {
-        return replay(alloc, source, vault);
-    }
-    match restore_asked(words) {
-        Some((container, version)) => restore_words(alloc, vault, container, version),
-        None => refused(Fault::NotBuilt { line: 0 }, vault),
-    }
-}
-
-fn is_replay(words: &[Text]) -> bool
-    ensures { IsTrue result ↔ (request_of words.now ≡ Replay) }
-{
-    match words {
-        [word] => fb_bytes::is_same(word.as_bytes(), b"replay"),
-        _ => false,
+    match words_ask(words) {
+        Asked::Replay => replay(alloc, source, vault),
+        Asked::Restore { container, version } => restore_words(alloc, vault, container, version),
+        Asked::Describe { container } => describe_words(alloc, vault, container),
+        Asked::Unknown => refused(Fault::NotBuilt { line: 0 }, vault),
     }
 }
 
-// The container and the version that the words of a restore name.
-fn restore_asked(words: &[Text]) -> Option<(&Text, u64)>
-    ensures some { IfSome result (λ asked. request_of words.now ≡ Restore asked.0.now asked.1) }
-    ensures none { result ≡ None → (request_of words.now ≡ Replay)
-        ⊎ (request_of words.now ≡ Unknown) }
+// What words ask for.
+enum Asked<'a> {
+    Replay,
+    Restore { container: &'a Text, version: u64 },
+    Describe { container: &'a Text },
+    Unknown,
+}
+
+fn words_ask(words: &[Text]) -> Asked<'_>
+    ensures { request_of words.now ≡ request_in result }
 {
     match words {
+        [word] => replay_of(word),
+        [word, container] => describe_of(word, container),
         [word, container, version] => restore_of(word, container, version),
-        _ => None,
+        _ => Asked::Unknown,
     }
 }
 
-fn restore_of<'a>(word: &Text, container: &'a Text, version: &Text) -> Option<(&'a Text, u64)>
-    ensures some { IfSome result (λ asked. request_of (word.now ∷ container.now ∷ version.now ∷ [])
-        ≡ Restore asked.0.now asked.1) }
-    ensures none { result ≡ None → request_of (word.now ∷ container.now ∷ version.now ∷ [])
-        ≡ Unknown }
+fn replay_of<'a>(word: &Text) -> Asked<'a>
+    ensures { request_of (word.now ∷ []) ≡ request_in result }
+{
+    if fb_bytes::is_same(word.as_bytes(), b"replay") {
+        Asked::Replay
+    } else {
+        Asked::Unknown
+    }
+}
+
+fn describe_of<'a>(word: &Text, container: &'a Text) -> Asked<'a>
+    ensures { request_of (word.now ∷ container.now ∷ []) ≡ request_in result }
+{
+    if fb_bytes::is_same(word.as_bytes(), b"describe") && is_container_name(container.as_bytes()) {
+        Asked::Describe { container }
+    } else {
+        Asked::Unknown
+    }
+}
+
+fn restore_of<'a>(word: &Text, container: &'a Text, version: &Text) -> Asked<'a>
+    ensures { request_of (word.now ∷ container.now ∷ version.now ∷ []) ≡ request_in result }
 {
     if !fb_bytes::is_same(word.as_bytes(), b"restore") || !is_container_name(container.as_bytes()) {
-        return None;
+        return Asked::Unknown;
     }
-    let version = read_property(version.as_bytes())?;
-    Some((container, version))
+    match read_property(version.as_bytes()) {
+        Some(version) => Asked::Restore { container, version },
+        None => Asked::Unknown,
+    }
 }
 
 // Writes what a command tells, and answers the status.

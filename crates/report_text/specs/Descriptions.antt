@@ -45,7 +45,3 @@ described_text told =
     container_line told.container
     ++ (flat_map snapshot_line told.description.snapshots
     ++ (version_lines told.description ++ property_lines told.description))
-
--- a line for each container
-abbrev pub listed_text : List Bytes → Bytes
-listed_text names = flat_map container_line names

@@ -5,4 +5,5 @@ pub mod Events
 pub mod Entries
 pub mod Faults
 pub mod Restores
+pub mod Descriptions
 pub mod Reports

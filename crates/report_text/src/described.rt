@@ -1,4 +1,4 @@
-//! The lines of a description, and of a list of containers.
+//! The lines of a description.
 
 ghost use Rattle.std.specs.Prelude.{◌≡◌, ◌++◌, OnOk};
 ghost use Rattle.std.specs.List.{flat_map};
@@ -18,16 +18,6 @@ pub fn put_described(out: &mut Blob, told: &Described) -> Result<(), AllocError>
     put_snapshots(out, told.description.snapshots.as_slice())?;
     put_versions(out, &told.description)?;
     put_properties(out, &told.description)
-}
-
-/// A line for each container.
-pub fn put_containers(out: &mut Blob, names: &[Text]) -> Result<(), AllocError>
-    ensures { OnOk result (out.new ≡ out.old ++ spec.listed_text names.now) }
-{
-    for name in names {
-        put_container(out, name)?;
-    }
-    Ok(())
 }
 
 fn put_container(out: &mut Blob, name: &Text) -> Result<(), AllocError>

@@ -2,6 +2,7 @@
 #![tactic(auto)]
 
 mod answers;
+mod described;
 mod entries;
 mod events;
 mod faults;
@@ -17,4 +18,4 @@ mod words;
 
 pub use faults::put_file_fault;
 pub use printing::report_bytes;
-pub use report::{EventLine, Report, Restored, RunReport};
+pub use report::{Described, EventLine, Report, Restored, RunReport};

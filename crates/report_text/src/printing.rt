@@ -1,6 +1,7 @@
 ghost use Rattle.std.specs.Prelude.{◌≡◌, ◌++◌, IfOk, OnOk};
 ghost use Rattle.report_text.specs.Reports.{details, end_line, run_text, report_text};
 
+use crate::described::put_described;
 use crate::entries::put_entries;
 use crate::events::put_events;
 use crate::jobs::put_jobs;
@@ -21,6 +22,7 @@ pub fn report_bytes(alloc: Global, report: &Report, brief: bool) -> Result<Blob,
     match report {
         Report::Run(run) => put_run(alloc, &mut out, run, brief)?,
         Report::Restored(told) => put_restored(alloc, &mut out, told)?,
+        Report::Described(told) => put_described(&mut out, told)?,
     }
     Ok(out)
 }

@@ -1,6 +1,7 @@
 use client_core::Outcomes;
 use cluster_core::{Answer, Jobs, StepFault};
-use fb_bytes::{Pairs, Seq};
+use container_view::Description;
+use fb_bytes::{Pairs, Seq, Text};
 use mutations::Entry;
 use workload_text::{CommandKind, ScheduleLine};
 
@@ -35,9 +36,17 @@ pub struct Restored {
     pub pairs: Pairs,
 }
 
+/// What a container has.
+#[derive(Debug, Drop)]
+pub struct Described {
+    pub container: Text,
+    pub description: Description,
+}
+
 /// What a command has to tell.
 #[derive(Debug, Drop)]
 pub enum Report {
     Run(RunReport),
     Restored(Restored),
+    Described(Described),
 }
