@@ -9,7 +9,8 @@ use Rattle.report_text.specs.declared.Report.TheVariants as reports
 use Rattle.fb_cli.specs.Outside.{Store}
 use Rattle.fb_cli.specs.Restores.{HasCause}
 use Rattle.fb_cli.specs.declared.fault.Fault.{Fault}
-use Rattle.fb_cli.specs.declared.fault.Fault.TheVariants.{VaultFault, Damaged, NoMemory, NoContainer}
+use Rattle.fb_cli.specs.declared.fault.Fault.TheVariants.{VaultFault, Damaged, NoMemory}
+use Rattle.fb_cli.specs.declared.fault.Fault.TheVariants.{NoContainer}
 
 -- the report tells what the names of a container's files and its properties say
 abbrev pub TellsDescription : Bytes → List File → Report → Type 0

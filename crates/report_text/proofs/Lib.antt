@@ -1,3 +1,4 @@
+pub mod Appends
 mod Clients
 mod Plain
 mod Tails

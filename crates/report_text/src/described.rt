@@ -1,11 +1,12 @@
 //! The lines of a description.
 
-ghost use Rattle.std.specs.Prelude.{◌≡◌, ◌++◌, OnOk};
+ghost use Rattle.std.specs.Prelude.{◌≡◌, ◌≤◌, [], ◌∷◌, ◌++◌, length, OnOk};
 ghost use Rattle.std.specs.List.{flat_map};
 ghost use Rattle.report_text.specs.Descriptions as spec;
 
 use crate::Described;
-use crate::words::{put, put_field, put_number};
+use crate::tail::Tail;
+use crate::words::put;
 use container_view::{Description, Snapshot};
 use fb_bytes::{Blob, Text};
 use std::alloc::AllocError;
@@ -16,8 +17,7 @@ pub fn put_described(out: &mut Blob, told: &Described) -> Result<(), AllocError>
 {
     put_container(out, &told.container)?;
     put_snapshots(out, told.description.snapshots.as_slice())?;
-    put_versions(out, &told.description)?;
-    put_properties(out, &told.description)
+    put_numbers(out, &told.description)
 }
 
 fn put_container(out: &mut Blob, name: &Text) -> Result<(), AllocError>
@@ -40,46 +40,66 @@ fn put_snapshots(out: &mut Blob, snapshots: &[Snapshot]) -> Result<(), AllocErro
 fn put_snapshot(out: &mut Blob, snapshot: &Snapshot) -> Result<(), AllocError>
     ensures { OnOk result (out.new ≡ out.old ++ spec.snapshot_line snapshot.now) }
 {
-    put_field(out, b"snapshot ", snapshot.begin)?;
-    put_field(out, b" ", snapshot.end)?;
-    put_field(out, b" ", snapshot.bytes)?;
-    put(out, b" ")?;
-    put_or_none(out, snapshot.greatest)?;
-    put(out, b"\n")
+    let mut tail = end_of_number(snapshot.greatest);
+    tail.text(b" ");
+    tail.number(snapshot.bytes);
+    tail.text(b" ");
+    tail.number(snapshot.end);
+    tail.text(b" ");
+    tail.number(snapshot.begin);
+    tail.text(b"snapshot ");
+    put(out, tail.as_slice())
 }
 
-fn put_versions(out: &mut Blob, description: &Description) -> Result<(), AllocError>
-    ensures { OnOk result (out.new ≡ out.old ++ spec.version_lines description.now) }
+fn put_numbers(out: &mut Blob, description: &Description) -> Result<(), AllocError>
+    ensures { OnOk result (out.new ≡ out.old ++ spec.number_lines description.now) }
+{
+    put_logs(out, description)?;
+    put_restorable(out, description)?;
+    put_properties(out, description)
+}
+
+fn put_logs(out: &mut Blob, description: &Description) -> Result<(), AllocError>
+    ensures { OnOk result (out.new ≡ out.old ++ spec.log_lines description.now) }
 {
     put_line(out, b"MinLogBeginVersion", description.log_begin)?;
     put_line(out, b"ContiguousLogEndVersion", description.log_contiguous)?;
-    put_line(out, b"MaxLogEndVersion", description.log_end)?;
+    put_line(out, b"MaxLogEndVersion", description.log_end)
+}
+
+fn put_restorable(out: &mut Blob, description: &Description) -> Result<(), AllocError>
+    ensures { OnOk result (out.new ≡ out.old ++ spec.restorable_lines description.now) }
+{
     put_line(out, b"MinRestorableVersion", description.min)?;
-    put_line(out, b"MaxRestorableVersion", description.max)
+    put_line(out, b"MaxRestorableVersion", description.max)?;
+    Ok(())
 }
 
 fn put_properties(out: &mut Blob, description: &Description) -> Result<(), AllocError>
     ensures { OnOk result (out.new ≡ out.old ++ spec.property_lines description.now) }
 {
     put_line(out, b"UnreliableEndVersion", description.unreliable)?;
-    put_line(out, b"ExpiredEndVersion", description.expired)
+    put_line(out, b"ExpiredEndVersion", description.expired)?;
+    Ok(())
 }
 
 fn put_line(out: &mut Blob, word: &[u8], number: Option<u64>) -> Result<(), AllocError>
+    requires { length word.now ≤ 40 }
     ensures { OnOk result (out.new ≡ out.old ++ spec.number_line word.now number) }
 {
-    put(out, word)?;
-    put(out, b" ")?;
-    put_or_none(out, number)?;
-    put(out, b"\n")
+    let mut tail = end_of_number(number);
+    tail.text(b" ");
+    tail.text(word);
+    put(out, tail.as_slice())
 }
 
-/// A number that may be absent.
-pub fn put_or_none(out: &mut Blob, number: Option<u64>) -> Result<(), AllocError>
-    ensures { OnOk result (out.new ≡ out.old ++ spec.number_or_none number) }
+// A number that may be absent, and the line feed.
+fn end_of_number(number: Option<u64>) -> Tail
+    ensures text { result ≡ spec.number_or_none number ++ 10 ∷ [] }
+    ensures len { length result ≤ 41 }
 {
     match number {
-        Some(number) => put_number(out, number),
-        None => put(out, b"none"),
+        Some(number) => Tail::last(b"", number),
+        None => Tail::of(b"none"),
     }
 }

@@ -1,6 +1,6 @@
 use Rattle.std.proofs.Common.{◌∙◌, ◌++◌, ap}
 use Rattle.fb_bytes.specs.Bytes.{Bytes}
-use Rattle.fb_cli.proofs.Appends.{three}
+use Rattle.report_text.proofs.Appends.{three}
 use Rattle.fb_cli.proofs.fault.push_damaged.Goals as goal
 
 pub returns : goal.returns

@@ -1,4 +1,4 @@
-use Rattle.fb_cli.proofs.Appends.{five}
+use Rattle.report_text.proofs.Appends.{five}
 use Rattle.fb_cli.proofs.fault.push_not_restorable.Goals as goal
 
 pub returns : goal.returns

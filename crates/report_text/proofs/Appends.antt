@@ -2,7 +2,7 @@
 use Rattle.std.proofs.Common.{◌≡◌, ◌∙◌, ◌++◌, ap, append_assoc}
 use Rattle.fb_bytes.specs.Bytes.{Bytes}
 
-two : (o a b o1 o2 : Bytes) → o1 ≡ o ++ a → o2 ≡ o1 ++ b → o2 ≡ o ++ (a ++ b)
+pub two : (o a b o1 o2 : Bytes) → o1 ≡ o ++ a → o2 ≡ o1 ++ b → o2 ≡ o ++ (a ++ b)
 two o a b o1 o2 p q = q ∙ ap (λ (x : Bytes). x ++ b) p ∙ append_assoc o a b
 
 pub three : (o a b c o1 o2 o3 : Bytes) → o1 ≡ o ++ a → o2 ≡ o1 ++ b → o3 ≡ o2 ++ c → o3 ≡ o ++ (a ++ (b ++ c))
