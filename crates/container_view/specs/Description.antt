@@ -89,8 +89,8 @@ described names unreliable expired =
 abbrev pub told_then : List Bytes → Option ℕ → Option ℕ → Result Description ViewFault
 told_then names unreliable expired = Ok (described names unreliable expired)
 
--- What is told of a container with these files, or the first fault: that it has no file, a property,
--- unreliable first.
+-- What is told of a container with these files, or the first fault: that it has no file, a
+-- property, unreliable first.
 abbrev pub description_of : List File → Result Description ViewFault
 description_of files = with_properties files told_then
 

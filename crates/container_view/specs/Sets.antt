@@ -83,8 +83,8 @@ set_by files names unreliable version = do
   manifest ← manifest_at files name
   set_with names manifest version (first_unlisted names manifest.files)
 
--- What is read of a container with these files, or the first fault: that it has no file, a property,
--- unreliable first, and then what the names and both properties come to.
+-- What is read of a container with these files, or the first fault: that it has no file, a
+-- property, unreliable first, and then what the names and both properties come to.
 abbrev pub with_properties : {A : Type 0} → List File
     → (List Bytes → Option ℕ → Option ℕ → Result A ViewFault) → Result A ViewFault
 with_properties [] next = Err faults.NoContainer
@@ -96,7 +96,8 @@ with_properties (file ∷ files) next = do
 -- the set by the names and the properties
 abbrev pub set_then : List File → ℕ → List Bytes → Option ℕ → Option ℕ
     → Result RestoreSet ViewFault
-set_then files version names unreliable expired = set_by files names (unwrap_or unreliable 0) version
+set_then files version names unreliable expired =
+    set_by files names (unwrap_or unreliable 0) version
 
 -- What is read for a version of a container with these files, or the first fault: that it has no
 -- file, a property, unreliable first, that the version isn't advertised, the chosen manifest, a
