@@ -1,7 +1,7 @@
 -- A backup: what is fixed of it by its command, and what changes. A hand job's dumps, cuts and
 -- seals are called one by one.
-use Rattle.std.specs.Prelude.{ℕ, ◌+◌, Bool, true, false, List, [], ◌∷◌, Option, Some, None}
-use Rattle.std.specs.Prelude.{unwrap_or, if◌then◌else◌}
+use Rattle.std.specs.Prelude.{ℕ, ◌+◌, Bool, List, [], ◌∷◌, Option, Some, None, unwrap_or}
+use Rattle.std.specs.Prelude.{if◌then◌else◌}
 use Rattle.fb_bytes.specs.Bytes.{Bytes}
 use Rattle.fb_bytes.specs.declared.KeyRange.{KeyRange}
 use Rattle.file_names.specs.declared.Name.{Name}

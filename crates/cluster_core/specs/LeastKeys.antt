@@ -21,16 +21,20 @@ use Rattle.cluster_core.specs.Sound.{Sound}
 
 -- A dump is refused for the least key of its piece outside the job's ranges, else for the least
 -- that is held.
-pub record DumpsBy (found : FoundBackup) (piece : KeyRange) (w : State) (gives put : Moved) : Type 0 where
+pub record DumpsBy (found : FoundBackup) (piece : KeyRange) (w : State) (gives put : Moved)
+    : Type 0 where
   pub outside : (key : Bytes) → IsOutside (map_of found.backup.job) piece key
       → gives ≡ refuses (OutsideRanges key) w
-  pub held : (key : Bytes) → IsInside (map_of found.backup.job) piece → IsHeld (map_of found.backup.job) piece key
+  pub held : (key : Bytes) → IsInside (map_of found.backup.job) piece
+      → IsHeld (map_of found.backup.job) piece key
       → gives ≡ refuses (Overlap key) w
-  pub free : IsInside (map_of found.backup.job) piece → IsApart (map_of found.backup.job) piece → gives ≡ put
+  pub free : IsInside (map_of found.backup.job) piece → IsApart (map_of found.backup.job) piece
+      → gives ≡ put
 
 -- A seal is refused for the least key of the job's ranges that no noted piece holds.
 pub record SealsBy (found : FoundBackup) (w : State) (gives put : Moved) : Type 0 where
-  pub untiled : (key : Bytes) → IsUntiled (map_of found.backup.job) key → gives ≡ refuses (Untiled key) w
+  pub untiled : (key : Bytes) → IsUntiled (map_of found.backup.job) key
+      → gives ≡ refuses (Untiled key) w
   pub tiled : IsTiled (map_of found.backup.job) → gives ≡ put
 
 -- In a sound state the newest job with a tag, where it hasn't ended, dumps and seals by the least

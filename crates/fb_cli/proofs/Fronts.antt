@@ -7,7 +7,8 @@ use Rattle.fb_outside.specs.Faults.{Rose, Counts}
 use Rattle.workload_text.specs.declared.ScheduleLine.{ScheduleLine}
 use Rattle.workload_text.specs.declared.Workload.{Workload}
 use Rattle.cluster_core.specs.Elsewhere.{told_of, KeepsElsewhere}
-use Rattle.cluster_core.specs.Jobs.{Job}
+use Rattle.cluster_core.specs.declared.Job.{Job}
+use Rattle.cluster_core.specs.declared.Job.TheVariants as types
 use Rattle.cluster_core.specs.Laws.{FaithfulLaw}
 use Rattle.cluster_core.specs.Sound.{Sound}
 use Rattle.cluster_core.specs.State.{State, opening}
@@ -71,7 +72,7 @@ nothing_front workload files files' f f' same count = record {
     causes = causes_of [] f f' (let h : f ≤ f' = omega arith in h);
   };
   stored = same;
-  faithful = λ told e place job at. absurd (no_job place job at);
+  faithful = λ told e place job at. absurd (no_job place (types.Backup job) at);
   elsewhere = λ name o. ap (λ (fs : Option (List File)). told_of fs name) same;
 }
 

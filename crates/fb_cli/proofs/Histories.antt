@@ -15,7 +15,8 @@ use Rattle.cluster_core.specs.State.{State, on_side, opening}
 use Rattle.cluster_core.specs.Sound.{IsOrdered, other_side, IsClientSound, Sound}
 use Rattle.cluster_core.specs.declared.Job.TheVariants as types
 use Rattle.cluster_core.specs.Backups.{Backup}
-use Rattle.cluster_core.specs.Jobs.{Job, JobTold, job_told, started}
+use Rattle.cluster_core.specs.declared.Job.{Job}
+use Rattle.cluster_core.specs.Jobs.{JobTold, job_told, started}
 use Rattle.cluster_core.proofs.Started.{started_backup}
 use Rattle.cluster_core.specs.Laws.{FaithfulLaw}
 use Rattle.container_view.specs.Contents.{file_grammars}

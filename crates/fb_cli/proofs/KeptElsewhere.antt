@@ -1,13 +1,13 @@
 -- A run keeps the files outside the containers of the jobs.
-use Rattle.std.specs.Prelude.{◌≡◌, List, [], ◌∷◌, map, Option, None}
+use Rattle.std.specs.Prelude.{◌≡◌, List, [], ◌∷◌, map, Option}
 use Rattle.std.specs.List.{AllByRecursion}
 use Rattle.std.proofs.Common.{ap, ◌∙◌, subst}
 use Rattle.fb_bytes.specs.Bytes.{Bytes}
 use Rattle.fb_outside.specs.declared.File.{File}
-use Rattle.container_view.specs.Files.{name_in}
 use Rattle.workload_text.specs.declared.Workload.{Workload}
 use Rattle.cluster_core.specs.Elsewhere.{told_of, IsApart, IsOutside, KeepsElsewhere}
-use Rattle.cluster_core.specs.Jobs.{Job, JobTold, job_told, started}
+use Rattle.cluster_core.specs.declared.Job.{Job}
+use Rattle.cluster_core.specs.Jobs.{JobTold, job_told, started}
 use Rattle.cluster_core.specs.State.{State, opening}
 use Rattle.cluster_core.proofs.Elsewhere.{kept_same, kept_trans, elsewhere_law}
 use Rattle.report_text.specs.declared.EventLine.{EventLine}

@@ -7,7 +7,6 @@ use Rattle.fb_bytes.specs.declared.KeyRange.{KeyRange}
 use Rattle.workload_text.specs.declared.Side.{Side}
 use Rattle.fb_outside.specs.declared.File.{File}
 use Rattle.container_view.specs.Contents.{file_grammars}
-use Rattle.container_view.specs.Files.{name_in}
 use Rattle.container_view.specs.Honest.{IsFaithfulStore}
 use Rattle.container_view.specs.Law.{Source}
 use Rattle.workload_text.specs.declared.ScheduleLine.{ScheduleLine}
