@@ -22,7 +22,7 @@ use Rattle.cluster_core.proofs.Lists.{get_set_same, get_set_other, same_or_other
 use Rattle.cluster_core.proofs.All.{each_set}
 use Rattle.cluster_core.proofs.Known.{Known}
 use Rattle.cluster_core.proofs.Grown.{each_sound, each_kept, job_grown, stored_grown, waits}
-use Rattle.cluster_core.proofs.Puts.{IsFresh, stored_put, stored_elsewhere}
+use Rattle.cluster_core.proofs.Puts.{IsFresh, stored_put, stored_elsewhere, fresh_is_spare}
 
 -- ---- the operator goes on
 
@@ -73,7 +73,7 @@ stored_each k p w place job name bytes files h at fresh s good m x e =
           let same : job ≡ x = some_is job x (sym at ∙ ap (slice_get w.jobs) i ∙ e) in
           let st = s.each place (types.Backup job) at in
           subst (λ (y : Backup). IsStored p.settings.block w.time w.tickets (history_on y.side w) (with_file files (whole_name job.container name) bytes) y) same
-          (stored_put k p.settings.block w.time w.tickets (history_on job.side w) files job name bytes s.ordered fresh (h.jobs.each place (types.Backup job) at).noted st (good.honest st) good.lists)
+          (stored_put k p.settings.block w.time w.tickets (history_on job.side w) files job name bytes s.ordered (fresh_is_spare k p.settings.block w.time w.tickets (history_on job.side w) files job name fresh (h.jobs.each place (types.Backup job) at).noted st) st (good.honest st) good.lists)
       | inr d ↦ stored_elsewhere k p.settings.block w.time w.tickets (history_on x.side w) files x (whole_name job.container name) bytes (k.files.apart job.container x.container name (h.jobs.each place (types.Backup job) at).named (h.jobs.each m (types.Backup x) e).named (not_same job.container x.container (λ t. d (h.jobs.apart place m job x at e t)))) (s.each m (types.Backup x) e)
     ]
   where

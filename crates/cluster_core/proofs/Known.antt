@@ -4,6 +4,7 @@ use Rattle.std.specs.List.{AllByRecursion}
 use Rattle.fb_bytes.specs.Bytes.{Bytes, is_same}
 use Rattle.fb_bytes.specs.declared.Pair.{Pair}
 use Rattle.fb_bytes.specs.Keys.{in_ranges}
+use Rattle.fb_bytes.specs.Options.{IsIn}
 use Rattle.fb_outside.specs.declared.File.{File}
 use Rattle.fb_outside.specs.Files.{AreFiles, file_of, with_file}
 use Rattle.mutations.specs.Laws.{LoggedLaw}
@@ -27,7 +28,7 @@ use Rattle.snapshot_plan.specs.Laws.{PieceLaw}
 use Rattle.snapshot_plan.specs.Listing.{AreDistinct}
 use Rattle.workload_text.specs.Commands.{is_container_name}
 use Rattle.database.specs.Laws.{DumpLaw, CommitLaw}
-use Rattle.cluster_core.specs.Sound.{IsDrawn}
+use Rattle.cluster_core.specs.Sound.{IsDrawn, unreliable_in}
 
 -- what puts and look-ups of files do
 pub record FilesKnown : Type 0 where
@@ -37,6 +38,7 @@ pub record FilesKnown : Type 0 where
   pub found : (container whole name bytes : Bytes) (files : List File) (folder : Folder) (snapshot version ticket block : ℕ) → AreFiles files → name_in container whole ≡ Some name → file_of files whole ≡ Some bytes → name_of name ≡ Range snapshot version ticket block → folder_in file_grammars container files ≡ Some folder → piece_named folder.ranges name ≡ read_range (range_file file_grammars name bytes version block)
   pub apart : (container other name : Bytes) → is_container_name container ≡ true → is_container_name other ≡ true → is_same container other ≡ false → name_in other (whole_name container name) ≡ None
   pub whole_in : (container name : Bytes) → name_in container (whole_name container name) ≡ Some name
+  pub unreliable : (container : Bytes) (files : List File) (folder : Folder) → folder_in file_grammars container files ≡ Some folder → unreliable_in container files ≡ Some folder.unreliable
 
 -- a noted piece is among the range files of a folder
 abbrev pub IsRead : List RangeFile → Noted → Type 0
@@ -46,6 +48,7 @@ IsRead ranges noted = (pairs : List Pair) × (piece_named ranges noted.file.name
 pub record ManifestsKnown : Type 0 where
   pub honest : (s : Source) (ranges : List RangeFile) (noted : List Noted) (file : ManifestFile) → 0 < length noted → AllByRecursion (IsRead ranges) noted → ArePieces (pieces_of noted) → ((key : Bytes) → in_ranges (pieces_of noted) key ≡ in_ranges s.ranges key) → file.begin ≡ (manifest_of noted).begin → file.end ≡ (manifest_of noted).end → file.content ≡ Some (manifest_of noted).files → IsHonestManifest s ranges file
   pub whole : (noted : List Noted) → 0 < length noted → AllByRecursion (λ n. version_of n.file.name ≡ Some n.file.version) noted → AreDistinct (map (λ n. n.file.name) noted) → IsWhole (manifest_of noted)
+  pub begin : (noted : List Noted) → 0 < length noted → (n : Noted) → IsIn n noted → (manifest_of noted).begin ≤ n.file.version
   pub order : (noted : List Noted) → (manifest_of noted).begin ≤ (manifest_of noted).end
   pub end : (noted : List Noted) (most : ℕ) → AllByRecursion (λ n. n.file.version ≤ most) noted → (manifest_of noted).end ≤ most
   -- it lists the names of noted files alone

@@ -1,7 +1,7 @@
 -- The laws of other crates, as the machine's proofs use them.
 use Rattle.std.specs.Prelude.{◌≡◌, ◌≢◌, ℕ, ◌<◌, ◌≤◌, Bool, true, false, not, ◌&&◌, ◌==◌, List, [], ◌∷◌, length, nat_le, refl}
 use Rattle.std.specs.List.{AllByRecursion, list_all}
-use Rattle.std.proofs.Common.{ap, sym, ◌∙◌, arith, subst, option_map, inl, inr}
+use Rattle.std.proofs.Common.{ap, sym, ◌∙◌, arith, subst, option_map, inl, inr, Option, Some, None}
 use Rattle.std.proofs.lemmas.Bool.{and_parts, and_from, eqb-true}
 use Rattle.fb_bytes.specs.Bytes.{Bytes}
 use Rattle.fb_bytes.specs.Options.{IsIn}
@@ -13,10 +13,14 @@ use Rattle.range_files.proofs.Written as ranges
 use Rattle.log_files.proofs.Written as logs
 use Rattle.mutations.proofs.Logs.{logged_law}
 use Rattle.container_view.specs.Contents.{ContentsLaw, file_grammars, range_content}
-use Rattle.container_view.specs.Files.{has_no_slash}
+use Rattle.container_view.specs.Files.{has_no_slash, whole_name, inside, end_of, unreliable_of, folder_in}
+use Rattle.container_view.specs.Folder.{Folder}
 use Rattle.container_view.proofs.Honest.{honest_store_law}
 use Rattle.container_view.proofs.Lookups.{file_law}
-use Rattle.container_view.proofs.Stores.{store_law}
+use Rattle.container_view.proofs.Stores.{store_law, file_inside}
+use Rattle.fb_outside.specs.declared.File.{File}
+use Rattle.file_names.specs.Spelling.{unreliable_text}
+use Rattle.fb_bytes.specs.Options.{◌>>=◌}
 use Rattle.snapshot_plan.specs.declared.Noted.{Noted}
 use Rattle.snapshot_plan.specs.Noted.{manifest_of}
 use Rattle.snapshot_plan.specs.Listing.{noted_names}
@@ -26,7 +30,7 @@ use Rattle.database.proofs.Dumping as dumping
 use Rattle.database.proofs.Committing as committing
 use Rattle.backup_core.proofs.Manifests.{honest_manifest_law}
 use Rattle.workload_text.specs.Commands.{is_name_byte, begins_well, is_container_name}
-use Rattle.cluster_core.specs.Sound.{IsDrawn}
+use Rattle.cluster_core.specs.Sound.{IsDrawn, unreliable_in}
 use Rattle.cluster_core.proofs.Known.{FilesKnown, ManifestsKnown, Known}
 
 contents : ContentsLaw
@@ -55,6 +59,15 @@ no_slash : (name : Bytes) → is_container_name name ≡ true → has_no_slash n
 unfolding is_container_name
 no_slash name h = all_no_slash name (and_parts (begins_well name && nat_le (length name) 32) (list_all is_name_byte name) h).1
 
+number_of : (o : Option ℕ) (folder : Folder) (make : ℕ → Folder) → ((n : ℕ) → (make n).unreliable ≡ n) → (o >>= λ end. Some (make end)) ≡ Some folder → o ≡ Some folder.unreliable
+number_of None folder make is e = cc
+number_of (Some end) folder make is e = ap Some (sym (is end)) ∙ ap (λ (f : Option Folder). option_map (λ (x : Folder). x.unreliable) f) e
+
+unreliable : (container : Bytes) (files : List File) (folder : Folder) → folder_in file_grammars container files ≡ Some folder → unreliable_in container files ≡ Some folder.unreliable
+unreliable container files folder e =
+    ap end_of (sym (file_inside container (whole_name container unreliable_text) unreliable_text files (store_law.whole_in container unreliable_text)))
+    ∙ number_of (unreliable_of (inside container files)) folder _ (λ n. refl) e
+
 files : FilesKnown
 files = record {
   put_same = file_law.put_same;
@@ -63,6 +76,7 @@ files = record {
   found = λ container whole name bytes files folder snapshot version ticket block o w f n d. file_law.found file_grammars container whole name bytes files folder snapshot version ticket block o w f n d;
   apart = λ container other name c o d. file_law.apart container other name (no_slash container c) (no_slash other o) d;
   whole_in = store_law.whole_in;
+  unreliable = unreliable;
 }
 
 -- ---- manifests
@@ -107,6 +121,7 @@ manifests_known : ManifestsKnown
 manifests_known = record {
   honest = λ s folder noted file l r p t b e c. honest_manifest_law s folder noted (some noted l) r p t file (record { begin = b; end = e; content = c });
   whole = λ noted l r d. (whole_law noted (some noted l) r d).whole;
+  begin = λ noted l n i. (manifest_law.begin noted (some noted l)).least n i;
   order = order;
   end = end_most;
   listed = λ tickets noted a. all_of (IsDrawn tickets) (manifest_of noted).files (λ name i. name_in_of (IsDrawn tickets) noted name a ((manifest_law.files noted name).0 i));

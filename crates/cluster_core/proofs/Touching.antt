@@ -13,7 +13,7 @@ abbrev pub Touches : ℕ → State → Moved → Type 0
 Touches pace w m = Footprint pace w m.answer m.state
 
 pub same : (pace : ℕ) (w : State) (answer : Result Answer StepFault) → Touches pace w (moved answer w)
-same pace w answer = record { starved = λ e. refl; since = omega arith; upto = omega arith; src = inl refl; dst = inl refl; jobs = inl refl; files = inl refl }
+same pace w answer = record { starved = λ e. refl; since = omega arith; upto = omega arith; src = inl refl; dst = inl refl; sides = inl refl; jobs = inl refl; files = inl refl }
 
 pub gone : (pace : ℕ) (w : State) (answer : Answer) → Touches pace w (moved (Ok answer) (gone_on w))
-gone pace w answer = record { starved = λ e. cc; since = omega arith; upto = omega arith; src = inl refl; dst = inl refl; jobs = inl refl; files = inl refl }
+gone pace w answer = record { starved = λ e. cc; since = omega arith; upto = omega arith; src = inl refl; dst = inl refl; sides = inl refl; jobs = inl refl; files = inl refl }

@@ -56,6 +56,8 @@ pub record Footprint (pace : ℕ) (old : State) (answer : Result Answer StepFaul
   pub upto : new.time ≤ old.time + pace
   pub src : (new.src ≡ old.src) ⊎ IsEntered new.time old.src new.src
   pub dst : (new.dst ≡ old.dst) ⊎ IsEntered new.time old.dst new.dst
+  -- and on one side alone
+  pub sides : (new.src ≡ old.src) ⊎ (new.dst ≡ old.dst)
   pub jobs : (new.jobs ≡ old.jobs)
       ⊎ (IsJobChanged old.jobs new.jobs ⊎ IsJobStarted old.jobs new.jobs)
   pub files : (new.files ≡ old.files) ⊎ IsFilePut old.jobs old.files new.files

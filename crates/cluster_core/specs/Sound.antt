@@ -1,6 +1,6 @@
 -- What each step keeps.
 use Rattle.std.specs.Prelude.{◌≡◌, ℕ, ◌+◌, ◌^◌, ◌<◌, ◌≤◌, true, false, List, [], map, length, Some}
-use Rattle.std.specs.Prelude.{slice_get}
+use Rattle.std.specs.Prelude.{Option, slice_get}
 use Rattle.std.specs.List.{AllByRecursion}
 use Rattle.fb_bytes.specs.Bytes.{Bytes, is_same}
 use Rattle.fb_bytes.specs.declared.KeyRange.{KeyRange}
@@ -14,8 +14,9 @@ use Rattle.mutations.specs.Spelling.{mutations_spelling}
 use Rattle.mutations.specs.Histories.{IsRising}
 use Rattle.file_names.specs.declared.Name.TheVariants.{Range}
 use Rattle.file_names.specs.Reading.{name_of}
+use Rattle.file_names.specs.Spelling.{unreliable_text}
 use Rattle.container_view.specs.Contents.{file_grammars}
-use Rattle.container_view.specs.Files.{whole_name}
+use Rattle.container_view.specs.Files.{whole_name, end_of}
 use Rattle.container_view.specs.Honest.{IsHonestStore, listed_by}
 use Rattle.container_view.specs.Law.{Source}
 use Rattle.snapshot_plan.specs.declared.Noted.{Noted}
@@ -107,6 +108,17 @@ pub record IsThere (block : ℕ) (container : Bytes) (files : List File)
   pub content : file_grammars.range block bytes
       ≡ Some (record { range = noted.piece; pairs = pairs })
 
+-- the unreliable end of a container in a store, 0 without its file, none where the file isn't in its
+-- grammar
+abbrev pub unreliable_in : Bytes → List File → Option ℕ
+unreliable_in container files = end_of (file_of files (whole_name container unreliable_text))
+
+-- The file of a noted piece is there where its version isn't below the container's unreliable end.
+abbrev pub IsKept : ℕ → Bytes → List File → Noted → Type 0
+IsKept block container files noted =
+    (end : ℕ) → unreliable_in container files ≡ Some end → end ≤ noted.file.version
+    → IsThere block container files noted
+
 -- the name is that of a range file whose ticket was drawn
 pub record IsDrawn (tickets : ℕ) (name : Bytes) : Type 0 where
   pub snapshot : ℕ
@@ -121,7 +133,7 @@ pub record IsStored (block now tickets : ℕ) (history : List Entry) (files : Li
     (backup : Backup) : Type 0 where
   pub honest : IsHonestStore file_grammars (source_of block now history backup) backup.container
       files
-  pub there : AllByRecursion (IsThere block backup.container files) backup.job.noted
+  pub there : AllByRecursion (IsKept block backup.container files) backup.job.noted
   -- manifests list range files with drawn tickets alone
   pub listed : (name bytes : Bytes) (names : List Bytes)
       → file_of files (whole_name backup.container name) ≡ Some bytes

@@ -45,6 +45,7 @@ abort_touches pace w found at = record {
   upto = omega arith;
   src = inl refl;
   dst = inl refl;
+  sides = inl refl;
   jobs = inr (inl (record { place = found.place; before = found.job; after = with_abort found.job; found = at; terms = kept_terms found.job; is = refl }));
   files = inl refl;
 }

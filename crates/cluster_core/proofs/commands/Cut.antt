@@ -245,7 +245,7 @@ cut_touches s w found luck at = go (nat_lt w.time found.backup.job.next)
 
 -- a name of another kind than a range file's is fresh
 fresh_log : (name : Bytes) (tickets begin end ticket block : ℕ) → name_of name ≡ Log begin end ticket block → IsFresh tickets name
-fresh_log name tickets begin end ticket block n s v t b e d = let q = sym n ∙ e in cc
+fresh_log name tickets begin end ticket block n = record { undrawn = λ s v t b e d. let q = sym n ∙ e in cc; plain = λ e. let q = sym n ∙ e in cc }
 
 cut_order : (k : Known) (p : Workload) (w : State) (place : ℕ) (job : Backup) → Sound p w → slice_get w.jobs place ≡ Some (types.Backup job) → has_ended job.job.state ≡ false → job.job.next ≤ w.time → w.tickets ≤ most_version → IsOrder p w place job (with_cut w job).job (cut_name p.settings w job) (cut_bytes p.settings w job)
 cut_order k p w place job h at running n t =

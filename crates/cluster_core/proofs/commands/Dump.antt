@@ -57,7 +57,7 @@ use Rattle.cluster_core.specs.Backups.{FoundBackup}
 use Rattle.cluster_core.specs.State.{State, history_on}
 use Rattle.cluster_core.specs.Moves.{Luck}
 use Rattle.cluster_core.specs.commands.Dump.{dump_name, dump_bytes, with_dump, dump_put, dump_tested, dump_piece}
-use Rattle.cluster_core.specs.Sound.{IsNoted, IsThere, BackupSound, Sound, source_of}
+use Rattle.cluster_core.specs.Sound.{IsNoted, IsKept, BackupSound, Sound, source_of}
 use Rattle.cluster_core.proofs.All.{all_placed}
 use Rattle.cluster_core.proofs.Named.{named, range_spelled}
 use Rattle.cluster_core.proofs.Puts.{IsFresh}
@@ -183,7 +183,10 @@ dump_touches s w found piece luck None (Some key) at = gone s.pace w _
 dump_touches s w found piece luck None None at = putting_touches s.pace w found.place found.backup (with_dump s w found.backup piece) (dump_name s w found.backup) (dump_bytes s w found.backup piece) luck at refl
 
 fresh_range : (name : Bytes) (tickets snapshot version block : ℕ) → name_of name ≡ Range snapshot version tickets block → IsFresh tickets name
-fresh_range name tickets snapshot version block n s v t b e d = let same : tickets ≡ t = cc (sym n ∙ e) in absurd (omega arith)
+fresh_range name tickets snapshot version block n = record {
+  undrawn = λ s v t b e d. let same : tickets ≡ t = cc (sym n ∙ e) in absurd (omega arith);
+  plain = λ e. let q = sym n ∙ e in cc;
+}
 
 dump_order : (k : Known) (p : Workload) (w : State) (place : ℕ) (job : Backup) (piece : KeyRange) → Sound p w → slice_get w.jobs place ≡ Some (types.Backup job) → IsPiece (key_limit_of p.settings.block) piece → IsFree job.job.terms.ranges job.job.noted piece → w.tickets ≤ most_version
     → IsOrder p w place job (with_dump p.settings w job piece).job (dump_name p.settings w job) (dump_bytes p.settings w job piece)
@@ -204,8 +207,8 @@ dump_order k p w place job piece h at i f t =
       after = dumped_sound k p.settings.block w.time w.tickets (history_on job.side w) job piece (record { name = dump_name p.settings w job; version = w.time; bytes = length (dump_bytes p.settings w job piece) }) (snapshot_at job.job w.time) j f refl name;
       stored = λ files there st. record {
         honest = st.honest;
-        there = all_placed (IsThere p.settings.block job.container files) (λ x. is_below x.piece.begin piece.begin) (record { piece = piece; file = record { name = dump_name p.settings w job; version = w.time; bytes = length (dump_bytes p.settings w job piece) } }) job.job.noted
-            (record { bytes = dump_bytes p.settings w job piece; file = there; pairs = pairs_at p.settings.block (history_on job.side w) w.time piece; content = dump_content k p.settings.block w.time (history_on job.side w) piece block (h.databases.within job.side) i })
+        there = all_placed (IsKept p.settings.block job.container files) (λ x. is_below x.piece.begin piece.begin) (record { piece = piece; file = record { name = dump_name p.settings w job; version = w.time; bytes = length (dump_bytes p.settings w job piece) } }) job.job.noted
+            (λ end e l. record { bytes = dump_bytes p.settings w job piece; file = there; pairs = pairs_at p.settings.block (history_on job.side w) w.time piece; content = dump_content k p.settings.block w.time (history_on job.side w) piece block (h.databases.within job.side) i })
             st.there;
         listed = st.listed;
       };

@@ -63,6 +63,7 @@ starts_touches s w tag side container ranges = go _
       upto = omega arith;
       src = inl refl;
       dst = inl refl;
+      sides = inl refl;
       jobs = inr (inr (record { job = new_job (length w.jobs + 1) tag side container ranges (w.time + s.pace); is = refl }));
       files = inl refl;
     }

@@ -63,6 +63,7 @@ puts_touches pace w place old new name bytes (Fine said) at n = record {
   upto = omega arith;
   src = inl refl;
   dst = inl refl;
+  sides = inl refl;
   jobs = inr (inl (next_jobs w place old new at n));
   files = inr (record { place = place; backup = old; found = at; name = name; bytes = bytes; is = refl });
 }
@@ -73,6 +74,7 @@ puts_touches pace w place old new name bytes FailsNew at n = record {
   upto = omega arith;
   src = inl refl;
   dst = inl refl;
+  sides = inl refl;
   jobs = inl refl;
   files = inr (record { place = place; backup = old; found = at; name = name; bytes = bytes; is = refl });
 }

@@ -68,7 +68,8 @@ use Rattle.backup_core.specs.Backups.{BackupJob, manifest_name}
 use Rattle.cluster_core.specs.Backups.{FoundBackup}
 use Rattle.cluster_core.specs.State.{State, history_on}
 use Rattle.cluster_core.specs.Moves.{Luck, moved}
-use Rattle.cluster_core.specs.Sound.{IsNoted, IsDrawn, IsThere, BackupSound, IsStored, Sound, source_of}
+use Rattle.fb_bytes.specs.Options.{IsIn}
+use Rattle.cluster_core.specs.Sound.{IsNoted, IsDrawn, IsThere, IsKept, unreliable_in, BackupSound, IsStored, Sound, source_of}
 use Rattle.cluster_core.proofs.Named.{named, manifest_spelled}
 use Rattle.cluster_core.proofs.Grown.{job_grown}
 use Rattle.cluster_core.proofs.Puts.{IsFresh}
@@ -192,7 +193,7 @@ seal_touches pace w found luck None at = go (nat_lt most_bytes (snapshot_bytes f
     go false = putting_touches pace w found.place found.backup (with_seal found.backup) (seal_name w found.backup) (manifest_text (manifest_of found.backup.job.noted)) luck at refl
 
 fresh_manifest : (name : Bytes) (tickets begin end bytes ticket : ℕ) → name_of name ≡ names.Manifest begin end bytes ticket → IsFresh tickets name
-fresh_manifest name tickets begin end bytes ticket n s v t b e d = let q = sym n ∙ e in cc
+fresh_manifest name tickets begin end bytes ticket n = record { undrawn = λ s v t b e d. let q = sym n ∙ e in cc; plain = λ e. let q = sym n ∙ e in cc }
 
 is_read : (k : Known) (block now tickets : ℕ) (container : Bytes) (files : List File) (folder : Folder) (noted : Noted) → AreFiles files → folder_in file_grammars container files ≡ Some folder → IsNoted block now tickets noted → IsThere block container files noted → IsRead folder.ranges noted
 is_read k block now tickets container files folder noted o f n h = (
@@ -205,16 +206,22 @@ all_read : (k : Known) (block now tickets : ℕ) (container : Bytes) (files : Li
 all_read k block now tickets container files folder [] o f n h = tt
 all_read k block now tickets container files folder (x ∷ xs) o f n h = (is_read k block now tickets container files folder x o f n.0 h.0, all_read k block now tickets container files folder xs o f n.1 h.1)
 
+-- noted files that are all at or past the unreliable end are all there
+all_there : (block : ℕ) (container : Bytes) (files : List File) (end : ℕ) → unreliable_in container files ≡ Some end → (noted : List Noted) → ((n : Noted) → IsIn n noted → end ≤ n.file.version) → AllByRecursion (IsKept block container files) noted → AllByRecursion (IsThere block container files) noted
+all_there block container files end e [] past h = tt
+all_there block container files end e (x ∷ xs) past h = (h.0 end e (past x (inl refl)), all_there block container files end e xs (λ n i. past n (inr i)) h.1)
+
 pub seal_content : (k : Known) (job : Backup) (ticket : ℕ) → IsWhole (manifest_of job.job.noted) → (manifest_of job.job.noted).bytes ≤ 9223372036854775807 → file_grammars.manifest (name_for (manifest_of job.job.noted) ticket) (manifest_text (manifest_of job.job.noted)) ≡ Some (manifest_of job.job.noted).files
 seal_content k job ticket w fits = k.contents.manifest (name_for (manifest_of job.job.noted) ticket) (manifest_text (manifest_of job.job.noted)) (manifest_of job.job.noted) (k.manifests.written (manifest_of job.job.noted) ticket w fits)
 
-pub seal_honest : (k : Known) (block now tickets ticket : ℕ) (history : List Entry) (files : List File) (job : Backup) (name : Bytes) → AreFiles files → BackupSound block now tickets history job → (st : IsStored block now tickets history files job) → gap (map_of job.job) ≡ None → (manifest_of job.job.noted).bytes ≤ 9223372036854775807
+pub seal_honest : (k : Known) (block now tickets ticket : ℕ) (history : List Entry) (files : List File) (job : Backup) (name : Bytes) → AreFiles files → BackupSound block now tickets history job → (st : IsStored block now tickets history files job) → gap (map_of job.job) ≡ None → (manifest_of job.job.noted).bytes ≤ 9223372036854775807 → st.honest.folder.unreliable ≤ (manifest_of job.job.noted).begin
     → IsHonestManifest (source_of block now history job) st.honest.folder.ranges (manifest_file file_grammars name (manifest_text (manifest_of job.job.noted)) (name_for (manifest_of job.job.noted) ticket) (manifest_of job.job.noted).begin (manifest_of job.job.noted).end)
-seal_honest k block now tickets ticket history files job name o h st g fits =
+seal_honest k block now tickets ticket history files job name o h st g fits u =
     let tiled = tiles k job.job.terms.ranges job.job.noted h.ranges.separate h.pieces h.inside g in
     let some = some_noted job.job.terms.ranges job.job.noted h.some h.ranges.separate tiled in
     k.manifests.honest (source_of block now history job) st.honest.folder.ranges job.job.noted _ some
-    (all_read k block now tickets job.container files st.honest.folder job.job.noted o st.honest.decoded h.noted st.there)
+    (all_read k block now tickets job.container files st.honest.folder job.job.noted o st.honest.decoded h.noted
+        (all_there block job.container files st.honest.folder.unreliable (k.files.unreliable job.container files st.honest.folder st.honest.decoded) job.job.noted (λ n i. let l = k.manifests.begin job.job.noted some n i in omega arith) st.there))
     h.pieces tiled refl refl (seal_content k job ticket (sealed_whole k block now tickets history job h some) fits)
 
 drawn_noted : (block now tickets : ℕ) (noted : Noted) → IsNoted block now tickets noted → IsDrawn tickets noted.file.name
@@ -242,7 +249,7 @@ seal_order k p w place job h at g fits t =
       fresh = fresh_manifest (seal_name w job) w.tickets (manifest_of job.job.noted).begin (manifest_of job.job.noted).end (manifest_of job.job.noted).bytes w.tickets name;
       good = λ files e. record {
         honest = λ st. subst (IsHonestFile file_grammars (source_of p.settings.block w.time (history_on job.side w) job) st.honest.folder (seal_name w job) (manifest_text (manifest_of job.job.noted))) (sym name)
-            (λ u. seal_honest k p.settings.block w.time w.tickets w.tickets (history_on job.side w) files job (seal_name w job) (h.containers files e).ordered j st g fits);
+            (λ u. seal_honest k p.settings.block w.time w.tickets w.tickets (history_on job.side w) files job (seal_name w job) (h.containers files e).ordered j st g fits u);
         lists = λ names l. seal_lists k p.settings.block w.time w.tickets w.tickets (history_on job.side w) job j some fits names (sym (ap (λ (x : Name). listed_by file_grammars x (manifest_text (manifest_of job.job.noted))) name) ∙ l);
       };
       after = sealed_sound p.settings.block w.time (w.tickets + 1) (history_on job.side w) job (job_grown p.settings.block w.time w.time w.tickets (w.tickets + 1) (history_on job.side w) (history_on job.side w) job (same_time w.time) (later_tickets w.tickets) j.logged j);

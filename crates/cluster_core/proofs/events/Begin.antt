@@ -17,7 +17,7 @@ use Rattle.cluster_core.proofs.Touching.{Touches, same}
 
 pub begin_touches : (pace : ℕ) (w : State) (n : ℕ) (o : Option ClientState) → Touches pace w (begin_with w n o)
 begin_touches pace w n None = same pace w _
-begin_touches pace w n (Some client) = record { starved = λ e. cc; since = omega arith; upto = omega arith; src = inl refl; dst = inl refl; jobs = inl refl; files = inl refl }
+begin_touches pace w n (Some client) = record { starved = λ e. cc; since = omega arith; upto = omega arith; src = inl refl; dst = inl refl; sides = inl refl; jobs = inl refl; files = inl refl }
 
 -- one client begins, and all else stands
 begun_keeps : (p : Workload) (w : State) (n : ℕ) (c : ClientState) (time : ℕ) → client_at w.clients n ≡ Some c → Sound p w → Sound p (record w { clients = put_client w.clients n (record c { begun = Some time }) })

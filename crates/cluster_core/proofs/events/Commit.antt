@@ -73,6 +73,7 @@ entered_on pace w Src v who muts clients answer h = record {
   upto = (time_since w.time pace v h).1;
   src = entered w.time pace v who muts w.src;
   dst = inl refl;
+  sides = inr refl;
   jobs = inl refl;
   files = inl refl;
 }
@@ -82,6 +83,7 @@ entered_on pace w Dst v who muts clients answer h = record {
   upto = (time_since w.time pace v h).1;
   src = inl refl;
   dst = entered w.time pace v who muts w.dst;
+  sides = inl refl;
   jobs = inl refl;
   files = inl refl;
 }
