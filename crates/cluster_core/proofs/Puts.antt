@@ -27,12 +27,13 @@ other_whole k container whole name none = differ whole (whole_name container nam
 
 there_elsewhere : (k : Known) (block : ℕ) (container whole bytes : Bytes) (files : List File) → name_in container whole ≡ None → (noted : List Noted) → AllByRecursion (IsKept block container files) noted → AllByRecursion (IsKept block container (with_file files whole bytes)) noted
 there_elsewhere k block container whole bytes files none [] h = tt
-there_elsewhere k block container whole bytes files none (n ∷ noted) h =
-    ((λ end e l.
-        let u = ap end_of (k.files.put_other files whole bytes (whole_name container unreliable_text) (other_whole k container whole unreliable_text none)) in
-        let r = h.0 end (sym u ∙ e) l in
-        record { bytes = r.bytes; file = k.files.put_other files whole bytes (whole_name container n.file.name) (other_whole k container whole n.file.name none) ∙ r.file; pairs = r.pairs; content = r.content }),
-    there_elsewhere k block container whole bytes files none noted h.1)
+there_elsewhere k block container whole bytes files none (n ∷ noted) h = (
+  (λ end e l.
+      let u = ap end_of (k.files.put_other files whole bytes (whole_name container unreliable_text) (other_whole k container whole unreliable_text none)) in
+      let r = h.0 end (sym u ∙ e) l in
+      record { bytes = r.bytes; file = k.files.put_other files whole bytes (whole_name container n.file.name) (other_whole k container whole n.file.name none) ∙ r.file; pairs = r.pairs; content = r.content }),
+  there_elsewhere k block container whole bytes files none noted h.1,
+)
 
 pub stored_elsewhere : (k : Known) (block now tickets : ℕ) (history : List Entry) (files : List File) (job : Backup) (whole bytes : Bytes) → name_in job.container whole ≡ None → IsStored block now tickets history files job → IsStored block now tickets history (with_file files whole bytes) job
 stored_elsewhere k block now tickets history files job whole bytes none h = record {
@@ -88,12 +89,13 @@ fresh_is_spare k block now tickets history files job name fresh noted h = record
 
 there_still : (k : Known) (block : ℕ) (container name bytes : Bytes) (files : List File) → (name_of name ≡ Unreliable → ⊥) → (noted : List Noted) → AllByRecursion (λ (n : Noted). name ≡ n.file.name → ⊥) noted → AllByRecursion (IsKept block container files) noted → AllByRecursion (IsKept block container (with_file files (whole_name container name) bytes)) noted
 there_still k block container name bytes files plain [] n h = tt
-there_still k block container name bytes files plain (x ∷ xs) n h =
-    ((λ end e l.
-        let u = ap end_of (k.files.put_other files (whole_name container name) bytes (whole_name container unreliable_text) (noted_differs k container name unreliable_text (λ q. plain (ap name_of q ∙ k.names unreliable_text Unreliable refl)))) in
-        let r = h.0 end (sym u ∙ e) l in
-        record { bytes = r.bytes; file = k.files.put_other files (whole_name container name) bytes (whole_name container x.file.name) (noted_differs k container name x.file.name n.0) ∙ r.file; pairs = r.pairs; content = r.content }),
-    there_still k block container name bytes files plain xs n.1 h.1)
+there_still k block container name bytes files plain (x ∷ xs) n h = (
+  (λ end e l.
+      let u = ap end_of (k.files.put_other files (whole_name container name) bytes (whole_name container unreliable_text) (noted_differs k container name unreliable_text (λ q. plain (ap name_of q ∙ k.names unreliable_text Unreliable refl)))) in
+      let r = h.0 end (sym u ∙ e) l in
+      record { bytes = r.bytes; file = k.files.put_other files (whole_name container name) bytes (whole_name container x.file.name) (noted_differs k container name x.file.name n.0) ∙ r.file; pairs = r.pairs; content = r.content }),
+  there_still k block container name bytes files plain xs n.1 h.1,
+)
 
 -- what a put of this file means for what is listed
 listed_still : (k : Known) (tickets : ℕ) (container name bytes : Bytes) (files : List File)

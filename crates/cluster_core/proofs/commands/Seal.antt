@@ -221,7 +221,7 @@ seal_honest k block now tickets ticket history files job name o h st g fits u =
     let some = some_noted job.job.terms.ranges job.job.noted h.some h.ranges.separate tiled in
     k.manifests.honest (source_of block now history job) st.honest.folder.ranges job.job.noted _ some
     (all_read k block now tickets job.container files st.honest.folder job.job.noted o st.honest.decoded h.noted
-        (all_there block job.container files st.honest.folder.unreliable (k.files.unreliable job.container files st.honest.folder st.honest.decoded) job.job.noted (λ n i. let l = k.manifests.begin job.job.noted some n i in omega arith) st.there))
+    (all_there block job.container files st.honest.folder.unreliable (k.files.unreliable job.container files st.honest.folder st.honest.decoded) job.job.noted (λ n i. let l = k.manifests.begin job.job.noted some n i in omega arith) st.there))
     h.pieces tiled refl refl (seal_content k job ticket (sealed_whole k block now tickets history job h some) fits)
 
 drawn_noted : (block now tickets : ℕ) (noted : Noted) → IsNoted block now tickets noted → IsDrawn tickets noted.file.name
