@@ -6,4 +6,3 @@ pub mod Fronts
 pub mod Texts
 pub mod Replaying
 pub mod Restoring
-pub mod Describing

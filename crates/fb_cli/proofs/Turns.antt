@@ -8,24 +8,11 @@ use Rattle.cluster_core.specs.declared.Answer.{Answer}
 use Rattle.cluster_core.specs.declared.StepFault.{StepFault}
 use Rattle.cluster_core.specs.declared.StepFault.TheVariants as steps
 use Rattle.cluster_core.specs.State.{State}
-use Rattle.cluster_core.specs.Step.{Step}
 use Rattle.report_text.specs.declared.EventLine.{EventLine}
 use Rattle.fb_cli.specs.declared.fault.Fault.{Fault}
 use Rattle.fb_cli.specs.Faults.{fault_of, last_fault}
-use Rattle.fb_cli.specs.Runs.{event_of, command_of, TellsTurns, Tells, schedule_of}
+use Rattle.fb_cli.specs.Runs.{TellsTurns, Tells, schedule_of}
 use Rattle.fb_cli.specs.Replays.{IsPlayed}
-
--- ---- one line
-
--- one step of the machine is a line of one turn
-pub one_turn : (p : Workload) (old new : State) (line : EventLine) → Step p old (event_of line.line) line.answer new → (line.answer ≡ Err steps.NoMemory → ⊥) → line.command ≡ command_of p old line.line → TellsTurns p old line new
-one_turn p old new line step memory command = record {
-  turns = record { event = event_of line.line; answer = line.answer } ∷ [];
-  told = refl;
-  run = (new, step, refl);
-  memory = memory;
-  command = command;
-}
 
 -- ---- one more line
 

@@ -13,7 +13,6 @@ use Rattle.container_view.specs.Law.{Source, true_value}
 use Rattle.container_view.specs.Meaning.{means}
 use Rattle.container_view.specs.declared.ViewFault.{ViewFault}
 use Rattle.container_view.specs.declared.ViewFault.TheVariants as views
-use Rattle.restore_apply.specs.declared.Loaded.{Loaded}
 use Rattle.restore_read.specs.Reading.{loaded_of}
 use Rattle.report_text.specs.declared.Report.{Report}
 use Rattle.report_text.specs.declared.Report.TheVariants as reports

@@ -1,4 +1,4 @@
-ghost use Rattle.std.specs.Prelude.{◌≡◌, ◌+◌, ◌≤◌};
+ghost use Rattle.std.specs.Prelude.{◌≡◌, ◌+◌, ◌≤◌, IfOk};
 ghost use Rattle.fb_cli.specs.Describes.{Describes};
 ghost use Rattle.fb_cli.specs.Faults.{status_of};
 ghost use Rattle.fb_cli.specs.Outside.{store_change};
