@@ -189,6 +189,21 @@ fn changed(alloc: Global, changes: &[Change]) -> Result<Files, AllocError> {
     Ok(files)
 }
 
+// Whether words over the changed files end so.
+fn says(
+    alloc: Global,
+    changes: &[Change],
+    words: &[&str],
+    status: u8,
+    said: &[u8],
+) -> Result<bool, AllocError> {
+    let files = changed(alloc, changes)?;
+    let vault = MemVault::new(alloc, &files, &[])?;
+    let mut sink = MemSink::new(alloc, 1000, &[])?;
+    let exit = called(alloc, words, vault, &mut sink)?;
+    Ok(exit.status == status && fb_bytes::is_same(sink.written().as_slice(), said))
+}
+
 // Whether the restore of a version over the changed files ends so.
 fn ends(
     alloc: Global,
@@ -197,11 +212,7 @@ fn ends(
     status: u8,
     said: &[u8],
 ) -> Result<bool, AllocError> {
-    let files = changed(alloc, changes)?;
-    let vault = MemVault::new(alloc, &files, &[])?;
-    let mut sink = MemSink::new(alloc, 1000, &[])?;
-    let exit = called(alloc, &["restore", "box", version], vault, &mut sink)?;
-    Ok(exit.status == status && fb_bytes::is_same(sink.written().as_slice(), said))
+    says(alloc, changes, &["restore", "box", version], status, said)
 }
 
 const TWO_BLOCKS: &[u8] =
@@ -404,6 +415,57 @@ const CHANGES: &[(&[Change<'static>], &str, u8, &[u8])] = &[
 fn a_changed_container_is_restored_or_refused(rt: HostRuntime) -> Result<(), Fail> {
     for (changes, version, status, said) in CHANGES {
         assert!(rt; ends(rt.alloc(), changes, version, *status, said)?);
+    }
+    Ok(())
+}
+
+// What a description of the changed container comes to.
+const DESCRIPTIONS: &[(&[Change], u8, &[u8])] = &[
+    (
+        &[],
+        0,
+        b"container box\n\
+          snapshot 20 20 23 20\n\
+          MinLogBeginVersion 10\n\
+          ContiguousLogEndVersion 21\n\
+          MaxLogEndVersion 21\n\
+          MinRestorableVersion 20\n\
+          MaxRestorableVersion 20\n\
+          UnreliableEndVersion none\n\
+          ExpiredEndVersion none\n",
+    ),
+    (
+        &[
+            ("box/properties/unreliable_end", Some(b"21")),
+            ("box/logs/0/log,30,41,4,256", Some(b"")),
+        ],
+        0,
+        b"container box\n\
+          snapshot 20 20 23 none\n\
+          MinLogBeginVersion 10\n\
+          ContiguousLogEndVersion 21\n\
+          MaxLogEndVersion 41\n\
+          MinRestorableVersion none\n\
+          MaxRestorableVersion none\n\
+          UnreliableEndVersion 21\n\
+          ExpiredEndVersion none\n",
+    ),
+    (
+        &[("box/properties/unreliable_end", Some(b"04"))],
+        7,
+        b"refused damaged properties/unreliable_end property\n",
+    ),
+    (
+        &[(RANGE, None), (LOG, None), (SEALED, None)],
+        13,
+        b"refused no-container\n",
+    ),
+];
+
+#[test]
+fn a_container_is_described(rt: HostRuntime) -> Result<(), Fail> {
+    for (changes, status, said) in DESCRIPTIONS {
+        assert!(rt; says(rt.alloc(), changes, &["describe", "box"], *status, said)?);
     }
     Ok(())
 }
