@@ -1,6 +1,6 @@
 //! Writing a range file.
 
-ghost use Rattle.std.specs.Prelude.{◌≡◌, ◌+◌, ◌<◌, ◌≤◌, ◌^◌, ◌++◌, length, IfOk};
+ghost use Rattle.std.specs.Prelude.{◌≡◌, ◌+◌, ◌<◌, ◌≤◌, ◌^◌, ◌++◌, length, IfOk, OnOk};
 ghost use Rattle.block_frame.specs.Text as text;
 ghost use Rattle.range_files.specs.Grammar.{RangeFile, pair_text};
 ghost use Rattle.range_files.specs.Writing.{IsWritable, range_text, repeat_of};
@@ -51,11 +51,13 @@ pub fn write_range<const BLOCK: u32>(alloc: Global, chunk: &Chunk) -> Result<Blo
     let pairs = chunk.pairs.as_slice();
     let mut frames = FrameWriter::<BLOCK, FORMAT>::new(alloc);
     frames.item(&begin, &[])?;
+    // Both are filled anew for each pair, in the memory that they have.
+    let mut text = Vec::new(alloc);
     let mut repeat = Vec::new(alloc);
     for pair in pairs {
-        let text = pair_bytes(alloc, pair)?;
+        set_pair(&mut text, pair)?;
         frames.item(&text, &repeat)?;
-        repeat = repeat_bytes(alloc, pair)?;
+        set_repeat(&mut repeat, pair)?;
     }
     frames.item(&end, &repeat)?;
     Ok(frames.finish())
@@ -81,26 +83,25 @@ fn string_text(alloc: Global, string: &[u8]) -> Result<Vec<u8>, AllocError>
     Ok(bytes)
 }
 
-fn pair_bytes(alloc: Global, pair: &Pair) -> Result<Vec<u8>, AllocError>
+// The bytes of a pair, in the place of what stands there.
+fn set_pair(bytes: &mut Vec<u8>, pair: &Pair) -> Result<(), AllocError>
     requires key { length pair.now.key < 2 ^ 32 }
     requires value { length pair.now.value < 2 ^ 32 }
-    ensures { IfOk result (λ bytes. bytes.items ≡ pair_text pair.now) }
+    ensures { OnOk result (bytes.new.items ≡ pair_text pair.now) }
 {
-    let mut bytes = Vec::with_capacity(alloc, pair.key.len() + pair.value.len() + 8)?;
-    push_string(&mut bytes, pair.key.as_slice())?;
-    push_string(&mut bytes, pair.value.as_slice())?;
-    Ok(bytes)
+    bytes.clear();
+    push_string(bytes, pair.key.as_slice())?;
+    push_string(bytes, pair.value.as_slice())
 }
 
-/// What a block begins with that goes on from this pair.
-fn repeat_bytes(alloc: Global, pair: &Pair) -> Result<Vec<u8>, AllocError>
+// What a block begins with that goes on from this pair, in the place of what stands there.
+fn set_repeat(bytes: &mut Vec<u8>, pair: &Pair) -> Result<(), AllocError>
     requires key { length pair.now.key < 2 ^ 32 }
     requires value { length pair.now.value < 2 ^ 32 }
-    ensures { IfOk result (λ bytes. bytes.items ≡ repeat_of (Some pair.now)) }
+    ensures { OnOk result (bytes.new.items ≡ repeat_of (Some pair.now)) }
 {
-    let mut bytes = Vec::with_capacity(alloc, 2 * pair.key.len() + pair.value.len() + 12)?;
-    push_string(&mut bytes, pair.key.as_slice())?;
-    push_string(&mut bytes, pair.key.as_slice())?;
-    push_string(&mut bytes, pair.value.as_slice())?;
-    Ok(bytes)
+    bytes.clear();
+    push_string(bytes, pair.key.as_slice())?;
+    push_string(bytes, pair.key.as_slice())?;
+    push_string(bytes, pair.value.as_slice())
 }
