@@ -26,9 +26,13 @@ pub fn write_log<const BLOCK: u32>(alloc: Global, chunk: &LogChunk) -> Result<Bl
     let part = part_size(BLOCK);
     let batches = chunk.batches.as_slice();
     let mut frames = FrameWriter::<BLOCK, FORMAT>::new(alloc);
+    let mut row = RowBuffer {
+        key: Vec::new(alloc),
+        bytes: Vec::new(alloc),
+    };
     for batch in batches {
         let bytes = encode_batch(alloc, &batch.muts)?;
-        put_batch(alloc, &mut frames, part, batch.version, bytes.as_slice())?;
+        put_batch(&mut row, &mut frames, part, batch.version, bytes.as_slice())?;
     }
     Ok(frames.finish())
 }
@@ -55,9 +59,9 @@ fn part_size(block: u32) -> usize
     }
 }
 
-/// Adds the parts of a batch.
+// Adds the parts of a batch.
 fn put_batch<const BLOCK: u32>(
-    alloc: Global,
+    row: &mut RowBuffer,
     frames: &mut FrameWriter<BLOCK, FORMAT>,
     part: usize,
     version: u64,
@@ -73,27 +77,35 @@ fn put_batch<const BLOCK: u32>(
     let mut number: u32 = 0;
     'parts: while rest.len() > part {
         let (piece, after) = rest.split_at(part);
-        let row = row_bytes(alloc, version, number, piece)?;
-        frames.item(&row, &[])?;
+        row.set(version, number, piece)?;
+        frames.item(&row.bytes, &[])?;
         rest = after;
         number += 1;
     }
-    let row = row_bytes(alloc, version, number, rest)?;
-    frames.item(&row, &[])?;
+    row.set(version, number, rest)?;
+    frames.item(&row.bytes, &[])?;
     Ok(())
 }
 
-/// A record: the version and the part's number, and the piece.
-fn row_bytes(alloc: Global, version: u64, part: u32, piece: &[u8]) -> Result<Vec<u8>, AllocError>
-    requires { length piece.now < 2 ^ 32 }
-    ensures { IfOk result
-        (λ bytes. bytes.items ≡ row_text (record { key = row_key version part; value = piece.now })) }
-{
-    let mut key = Vec::with_capacity(alloc, 12)?;
-    key.extend_from_slice(&version.to_be_bytes())?;
-    key.extend_from_slice(&part.to_be_bytes())?;
-    let mut bytes = Vec::with_capacity(alloc, piece.len() + 20)?;
-    push_string(&mut bytes, &key)?;
-    push_string(&mut bytes, piece)?;
-    Ok(bytes)
+// A record, and its key. Each record is put together in the memory that the one before it had.
+#[derive(Debug, Drop)]
+struct RowBuffer {
+    key: Vec<u8>,
+    bytes: Vec<u8>,
+}
+
+impl RowBuffer {
+    // The record of a version and a part's number, and of the piece.
+    fn set(&mut self, version: u64, part: u32, piece: &[u8]) -> Result<(), AllocError>
+        requires { length piece.now < 2 ^ 32 }
+        ensures { OnOk result (self.new.bytes.items
+            ≡ row_text (record { key = row_key version part; value = piece.now })) }
+    {
+        self.key.clear();
+        self.key.extend_from_slice(&version.to_be_bytes())?;
+        self.key.extend_from_slice(&part.to_be_bytes())?;
+        self.bytes.clear();
+        push_string(&mut self.bytes, &self.key)?;
+        push_string(&mut self.bytes, piece)
+    }
 }

@@ -12,11 +12,11 @@ parts-preserved g c = record {
   few = omega (arith, c.parts.invariant.few, c.parts-test.true, c.split_at.ensures.back_len, c.requires.part);
   so_far = parts_more g.row.BLOCK c.args.part c.parts.frames c.item.new.self c.args.version c.parts.number c.parts.rest.now c.split_at.result.1.now c.deref.result.now _ _
       (omega (arith, c.requires.part)) c.parts-test.true
-      (c.deref.ensures.value ∙ c.in_ok-row.ensures ∙ ap (λ (x : Bytes). row_text (row_at c.args.version c.parts.number x)) c.split_at.ensures.front)
+      (c.deref.ensures.value ∙ c.in_ok-set.ensures ∙ ap (λ (x : Bytes). row_text (row_at c.args.version c.parts.number x)) c.split_at.ensures.front)
       refl c.in_ok-item.ensures.ok c.split_at.ensures.back c.parts.invariant.so_far;
 }
 
 pub returns : goal.returns
 returns g c =
     parts_end g.row.BLOCK c.args.part c.parts.frames c.item-2.new.self c.args.version c.parts.number c.parts.rest.now c.deref-2.result.now _ _
-    c.parts-test.false (c.deref-2.ensures.value ∙ c.in_ok-row-2.ensures) refl c.in_ok-item-2.ensures.ok c.parts.invariant.so_far
+    c.parts-test.false (c.deref-2.ensures.value ∙ c.in_ok-set-2.ensures) refl c.in_ok-item-2.ensures.ok c.parts.invariant.so_far
