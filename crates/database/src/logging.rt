@@ -1,7 +1,7 @@
 //! What a job logs of a history.
 
 ghost use Rattle.std.specs.Prelude.{◌≡◌, ◌++◌, [], IfOk, OnOk};
-ghost use Rattle.mutations.specs.Clipping.{all_clipped};
+ghost use Rattle.mutations.specs.Clipping.{all_clipped, clipped};
 ghost use Rattle.mutations.specs.Histories.{logged, with_batch};
 
 use fb_bytes::{Ranges, Seq};
@@ -54,9 +54,31 @@ fn clip_all(alloc: Global, muts: &[Mutation], ranges: &Ranges) -> Result<Seq<Mut
 {
     let mut left = Vec::with_capacity(alloc, muts.len())?;
     for mutation in muts {
-        let mut clipped = clip(alloc, mutation, ranges)?.into_vec();
-        left.append(&mut clipped)?;
+        push_clipped(alloc, &mut left, mutation, ranges)?;
     }
     left.shrink_to_fit();
     Ok(Seq::from_vec(left))
+}
+
+// Adds what is left of a mutation. Only that of a clear may be several, and takes a list.
+fn push_clipped(
+    alloc: Global,
+    left: &mut Vec<Mutation>,
+    mutation: &Mutation,
+    ranges: &Ranges,
+) -> Result<(), AllocError>
+    ensures { OnOk result (left.new.items ≡ left.old.items ++ clipped ranges.now mutation.now) }
+{
+    match mutation {
+        Mutation::Set { key, .. } | Mutation::Atomic { key, .. } => {
+            if ranges.contains(key.as_slice()) {
+                left.push(mutation.copy()?)?;
+            }
+        }
+        Mutation::ClearRange { .. } => {
+            let mut clipped = clip(alloc, mutation, ranges)?.into_vec();
+            left.append(&mut clipped)?;
+        }
+    }
+    Ok(())
 }
