@@ -1,81 +1,13 @@
-//! Restores with the program's words.
+//! Restores and descriptions of containers that a run left, of damaged ones, and of changed ones.
 
-use super::{ADDS, LOG_FILE, MANIFEST, RANGE_FILE, SMALLEST, played};
-use crate::top::{Exit, top};
-use fb_bytes::{Blob, Text};
-use fb_outside::{File, Files, MemSink, MemSource, MemVault};
-use std::alloc::{AllocError, Global};
-use std::test::Fail;
+use super::replays::{ADDS, ADDS_REPORT, CLEARED, CLEARED_REPORT, SMALLEST, SMALLEST_REPORT};
+use super::{
+    Call, Case, Change, Failing, LOG, LOG_FILE, MANIFEST, NONE, RANGE, RANGE_FILE, REPLAY, SEALED,
+};
 
-const RANGE: &str = "box/kvranges/snapshot.20/0/range,20,1,256";
+const RESTORE_20: &[&str] = &["restore", "box", "20"];
 
-const LOG: &str = "box/logs/0/log,10,21,2,256";
-
-const SEALED: &str = "box/snapshots/snapshot,20,20,23,3";
-
-// Calls the program with words over a file store.
-fn called(
-    alloc: Global,
-    list: &[&str],
-    vault: MemVault,
-    sink: &mut MemSink,
-) -> Result<Exit<MemVault>, AllocError> {
-    let mut words = Vec::new(alloc);
-    for word in list {
-        words.push(Text::from_str(alloc, word)?)?;
-    }
-    let mut source = MemSource::new(alloc, b"", &[])?;
-    Ok(top(alloc, &words, &mut source, vault, sink))
-}
-
-// Plays a text, and then restores versions of the container `box`, each with what it prints.
-fn plays_and_restores(
-    alloc: Global,
-    text: &[u8],
-    rows: &[(&str, u8, &[u8])],
-) -> Result<bool, AllocError> {
-    let mut sink = MemSink::new(alloc, 2000, &[])?;
-    let played = played(alloc, text, &[], &mut sink)?;
-    let mut vault = played.vault;
-    for (version, status, said) in rows {
-        let mut sink = MemSink::new(alloc, 2000, &[])?;
-        let exit = called(alloc, &["restore", "box", version], vault, &mut sink)?;
-        if exit.status != *status || !fb_bytes::is_same(sink.written().as_slice(), said) {
-            return Ok(false);
-        }
-        vault = exit.vault;
-    }
-    Ok(played.status == 0)
-}
-
-// The clear lies between the two dumps.
-const CLEARED: &[u8] = b"block 256\n\
-    pace 10\n\
-    client 1 src\n\
-    txn\n\
-    set c 1\n\
-    txn\n\
-    clearrange b x\n\
-    txn\n\
-    set p 2\n\
-    operator\n\
-    open default src box a z\n\
-    dump default a m\n\
-    dump default m z\n\
-    cut default\n\
-    seal default\n\
-    schedule\n\
-    op\n\
-    begin 1\n\
-    commit 1\n\
-    op\n\
-    begin 1\n\
-    commit 1\n\
-    begin 1\n\
-    commit 1\n\
-    op\n\
-    op\n\
-    op\n";
+const DESCRIBE: &[&str] = &["describe", "box"];
 
 // Before the second snapshot's end the first is taken, and the log from its begin on.
 const TWO_SNAPSHOTS: &[u8] = b"block 256\n\
@@ -110,235 +42,546 @@ const TWO_SNAPSHOTS: &[u8] = b"block 256\n\
     commit 1\n\
     op\n";
 
-// A version, the status of its restore, and what is said.
-type Row = (&'static str, u8, &'static [u8]);
+const TWO_SNAPSHOTS_REPORT: &[u8] = b"op open -> done\n\
+      begin 1 -> read 10\n\
+      commit 1 -> commit 20\n\
+      op dump -> placed box/kvranges/snapshot.20/0/range,20,1,256\n\
+      op seal -> placed box/snapshots/snapshot,20,20,23,2\n\
+      begin 1 -> read 20\n\
+      commit 1 -> commit 30\n\
+      op cut -> placed box/logs/0/log,10,31,3,256\n\
+      op dump -> placed box/kvranges/snapshot.30/0/range,30,4,256\n\
+      op seal -> placed box/snapshots/snapshot,30,30,24,5\n\
+      begin 1 -> read 30\n\
+      commit 1 -> commit 40\n\
+      op cut -> placed box/logs/0/log,31,41,6,256\n\
+      client 1 txn 1 try 1 read 10 commit 20\n\
+      client 1 txn 2 try 1 read 20 commit 30\n\
+      client 1 txn 3 try 1 read 30 commit 40\n\
+      entry src 20 client 1 1\n\
+      set a 1\n\
+      entry src 30 client 1 2\n\
+      append a 2\n\
+      entry src 40 client 1 3\n\
+      set b 3\n\
+      job 1 default hand running\n\
+      end 40\n";
 
-// Texts, and restores of the container `box` that they leave. The smallest job advertises one version.
-// A mutation at a dump's version, which stands in the log too, is made once, and a clear across two
-// pieces is made on the older one.
-const RESTORES: &[(&[u8], &[Row])] = &[
+// The calls that play a text.
+const PLAY_SMALLEST: Call = (REPLAY, SMALLEST, NONE, 0, SMALLEST_REPORT);
+
+const PLAY_ADDS: Call = (REPLAY, ADDS, NONE, 0, ADDS_REPORT);
+
+const PLAY_CLEARED: Call = (REPLAY, CLEARED, NONE, 0, CLEARED_REPORT);
+
+const PLAY_TWO_SNAPSHOTS: Call = (REPLAY, TWO_SNAPSHOTS, NONE, 0, TWO_SNAPSHOTS_REPORT);
+
+// Restores of what a text leaves. The smallest job advertises one version. A mutation at a dump's version,
+// which stands in the log too, is made once, and a clear across two pieces is made on the older one.
+pub const RESTORES: &[Case] = &[
     (
-        SMALLEST,
+        &[],
         &[
-            ("20", 0, b"version 20\npair a 1\npairs 1\n"),
-            ("21", 6, b"refused not-restorable 20 20\n"),
-            ("19", 6, b"refused not-restorable 20 20\n"),
+            PLAY_SMALLEST,
+            (
+                &["restore", "box", "20"],
+                b"",
+                NONE,
+                0,
+                b"version 20\npair a 1\npairs 1\n",
+            ),
+            (
+                &["restore", "box", "21"],
+                b"",
+                NONE,
+                6,
+                b"refused not-restorable 20 20\n",
+            ),
+            (
+                &["restore", "box", "19"],
+                b"",
+                NONE,
+                6,
+                b"refused not-restorable 20 20\n",
+            ),
         ],
+        &[],
     ),
     (
-        ADDS,
+        &[],
         &[
-            ("20", 0, b"version 20\npair n \\x01\npairs 1\n"),
-            ("30", 0, b"version 30\npair n \\x02\npairs 1\n"),
-            ("31", 6, b"refused not-restorable 20 30\n"),
+            PLAY_ADDS,
+            (
+                &["restore", "box", "20"],
+                b"",
+                NONE,
+                0,
+                b"version 20\npair n \\x01\npairs 1\n",
+            ),
+            (
+                &["restore", "box", "30"],
+                b"",
+                NONE,
+                0,
+                b"version 30\npair n \\x02\npairs 1\n",
+            ),
+            (
+                &["restore", "box", "31"],
+                b"",
+                NONE,
+                6,
+                b"refused not-restorable 20 30\n",
+            ),
         ],
+        &[],
     ),
     (
-        CLEARED,
+        &[],
         &[
-            ("40", 0, b"version 40\npair p 2\npairs 1\n"),
-            ("39", 6, b"refused not-restorable 40 40\n"),
+            PLAY_CLEARED,
+            (
+                &["restore", "box", "40"],
+                b"",
+                NONE,
+                0,
+                b"version 40\npair p 2\npairs 1\n",
+            ),
+            (
+                &["restore", "box", "39"],
+                b"",
+                NONE,
+                6,
+                b"refused not-restorable 40 40\n",
+            ),
         ],
+        &[],
     ),
     (
-        TWO_SNAPSHOTS,
+        &[],
         &[
-            ("20", 0, b"version 20\npair a 1\npairs 1\n"),
-            ("29", 0, b"version 29\npair a 1\npairs 1\n"),
-            ("30", 0, b"version 30\npair a 12\npairs 1\n"),
-            ("40", 0, b"version 40\npair a 12\npair b 3\npairs 2\n"),
+            PLAY_TWO_SNAPSHOTS,
+            (
+                &["restore", "box", "20"],
+                b"",
+                NONE,
+                0,
+                b"version 20\npair a 1\npairs 1\n",
+            ),
+            (
+                &["restore", "box", "29"],
+                b"",
+                NONE,
+                0,
+                b"version 29\npair a 1\npairs 1\n",
+            ),
+            (
+                &["restore", "box", "30"],
+                b"",
+                NONE,
+                0,
+                b"version 30\npair a 12\npairs 1\n",
+            ),
+            (
+                &["restore", "box", "40"],
+                b"",
+                NONE,
+                0,
+                b"version 40\npair a 12\npair b 3\npairs 2\n",
+            ),
         ],
+        &[],
     ),
 ];
 
-#[test]
-fn each_version_is_restored_or_refused(rt: HostRuntime) -> Result<(), Fail> {
-    for (text, rows) in RESTORES {
-        assert!(rt; plays_and_restores(rt.alloc(), text, rows)?);
-    }
-    Ok(())
-}
-
-fn put(alloc: Global, files: &mut Files, name: &str, bytes: &[u8]) -> Result<(), AllocError> {
-    let name = Text::from_str(alloc, name)?;
-    let bytes = Blob::from_slice(alloc, bytes)?;
-    files.put(File { name, bytes })
-}
-
 // The files of the smallest whole path.
-fn smallest(alloc: Global) -> Result<Files, AllocError> {
-    let mut files = Files::new(alloc);
-    put(alloc, &mut files, RANGE, RANGE_FILE)?;
-    put(alloc, &mut files, LOG, LOG_FILE)?;
-    put(alloc, &mut files, SEALED, MANIFEST)?;
-    Ok(files)
-}
-
-// A name of a file, and its bytes; none where there is no such file.
-type Change<'a> = (&'a str, Option<&'a [u8]>);
-
-// The files of the smallest whole path with these changes.
-fn changed(alloc: Global, changes: &[Change]) -> Result<Files, AllocError> {
-    let mut files = smallest(alloc)?;
-    for (name, bytes) in changes {
-        match bytes {
-            Some(bytes) => put(alloc, &mut files, name, bytes)?,
-            None => files.delete(name.as_bytes()),
-        }
-    }
-    Ok(files)
-}
-
-// Whether words over the changed files end so.
-fn says(
-    alloc: Global,
-    changes: &[Change],
-    words: &[&str],
-    status: u8,
-    said: &[u8],
-) -> Result<bool, AllocError> {
-    let files = changed(alloc, changes)?;
-    let vault = MemVault::new(alloc, &files, &[])?;
-    let mut sink = MemSink::new(alloc, 1000, &[])?;
-    let exit = called(alloc, words, vault, &mut sink)?;
-    Ok(exit.status == status && fb_bytes::is_same(sink.written().as_slice(), said))
-}
-
-// Whether the restore of a version over the changed files ends so.
-fn ends(
-    alloc: Global,
-    changes: &[Change],
-    version: &str,
-    status: u8,
-    said: &[u8],
-) -> Result<bool, AllocError> {
-    says(alloc, changes, &["restore", "box", version], status, said)
-}
+const WHOLE: &[Change] = &[
+    (RANGE, Some(RANGE_FILE)),
+    (LOG, Some(LOG_FILE)),
+    (SEALED, Some(MANIFEST)),
+];
 
 const TWO_BLOCKS: &[u8] =
     b"\xe9\x03\x00\x00\x00\x00\x00\x00\x00\x00\x00\x01a\x00\x00\x00\x011\xff\xff\xff\xff\xff\xff\xff\xff\xff\xff\xff\xff\xff\xff\xff\xff\xff\xff\xff\xff\xff\xff\xff\xff\xff\xff\xff\xff\xff\xff\xff\xff\xff\xff\xff\xff\xff\xff\xff\xff\xff\xff\xff\xff\xff\xff\xff\xff\xff\xff\xff\xff\xff\xff\xff\xff\xff\xff\xff\xff\xff\xff\xff\xff\xff\xff\xff\xff\xff\xff\xff\xff\xff\xff\xff\xff\xff\xff\xff\xff\xff\xff\xff\xff\xff\xff\xff\xff\xff\xff\xff\xff\xff\xff\xff\xff\xff\xff\xff\xff\xff\xff\xff\xff\xff\xff\xff\xff\xff\xff\xff\xff\xff\xff\xff\xff\xff\xff\xff\xff\xff\xff\xff\xff\xff\xff\xff\xff\xff\xff\xff\xff\xff\xff\xff\xff\xff\xff\xff\xff\xff\xff\xff\xff\xff\xff\xff\xff\xff\xff\xff\xff\xff\xff\xff\xff\xff\xff\xff\xff\xff\xff\xff\xff\xff\xff\xff\xff\xff\xff\xff\xff\xff\xff\xff\xff\xff\xff\xff\xff\xff\xff\xff\xff\xff\xff\xff\xff\xff\xff\xff\xff\xff\xff\xff\xff\xff\xff\xff\xff\xff\xff\xff\xff\xff\xff\xff\xff\xff\xff\xff\xff\xff\xff\xff\xff\xff\xff\xff\xff\xff\xff\xff\xff\xff\xff\xff\xff\xff\xff\xff\xff\xff\xff\xff\xff\xff\xff\xe9\x03\x00\x00\x00\x00\x00\x01b\x00\x00\x00\x01b\x00\x00\x00\x011\x00\x00\x00\x01\xff";
 
 // Each file damaged in each way that its grammar knows, with the fault that is named.
-const DAMAGES: &[(&str, &[u8], &[u8])] = &[
+pub const DAMAGES: &[Case] = &[
     (
-        RANGE,
-        b"\xe9\x03\x00\x00\x00\x00\x00\x00\x00\x00\x00\x01a\x00\x00\x00\x011\x00\x00",
-        b"refused damaged kvranges/snapshot.20/0/range,20,1,256 short 18\n",
+        &[
+            WHOLE,
+            &[(
+                RANGE,
+                Some(b"\xe9\x03\x00\x00\x00\x00\x00\x00\x00\x00\x00\x01a\x00\x00\x00\x011\x00\x00"),
+            )],
+        ],
+        &[(
+            RESTORE_20,
+            b"",
+            NONE,
+            7,
+            b"refused damaged kvranges/snapshot.20/0/range,20,1,256 short 18\n",
+        )],
+        &[],
     ),
     (
-        RANGE,
-        b"\xea\x03\x00\x00\x00\x00\x00\x00\x00\x00\x00\x01a\x00\x00\x00\x011\x00\x00\x00\x01\xff",
-        b"refused damaged kvranges/snapshot.20/0/range,20,1,256 format 1002\n",
+        &[
+            WHOLE,
+            &[(
+                RANGE,
+                Some(
+                    b"\xea\x03\x00\x00\x00\x00\x00\x00\x00\x00\x00\x01a\x00\x00\x00\x011\x00\x00\x00\x01\xff",
+                ),
+            )],
+        ],
+        &[(
+            RESTORE_20,
+            b"",
+            NONE,
+            7,
+            b"refused damaged kvranges/snapshot.20/0/range,20,1,256 format 1002\n",
+        )],
+        &[],
     ),
     (
-        RANGE,
-        b"\xe9\x03\x00\x00\x00\x00\x00\x00\x00\x00\x00\x01a\x00\x00\x00\x011\x00\x00\x00\x01\xff\xff\x00",
-        b"refused damaged kvranges/snapshot.20/0/range,20,1,256 padding 24\n",
+        &[
+            WHOLE,
+            &[(
+                RANGE,
+                Some(
+                    b"\xe9\x03\x00\x00\x00\x00\x00\x00\x00\x00\x00\x01a\x00\x00\x00\x011\x00\x00\x00\x01\xff\xff\x00",
+                ),
+            )],
+        ],
+        &[(
+            RESTORE_20,
+            b"",
+            NONE,
+            7,
+            b"refused damaged kvranges/snapshot.20/0/range,20,1,256 padding 24\n",
+        )],
+        &[],
     ),
     (
-        RANGE,
-        b"\xe9\x03\x00\x00\x00\x00\x00\x00\x00\x00\x00\x01a\x00\x00\x00\x011\x00\x00\x00\x01a",
-        b"refused damaged kvranges/snapshot.20/0/range,20,1,256 order 18\n",
+        &[
+            WHOLE,
+            &[(
+                RANGE,
+                Some(
+                    b"\xe9\x03\x00\x00\x00\x00\x00\x00\x00\x00\x00\x01a\x00\x00\x00\x011\x00\x00\x00\x01a",
+                ),
+            )],
+        ],
+        &[(
+            RESTORE_20,
+            b"",
+            NONE,
+            7,
+            b"refused damaged kvranges/snapshot.20/0/range,20,1,256 order 18\n",
+        )],
+        &[],
     ),
     (
-        RANGE,
-        TWO_BLOCKS,
-        b"refused damaged kvranges/snapshot.20/0/range,20,1,256 join 1\n",
+        &[WHOLE, &[(RANGE, Some(TWO_BLOCKS))]],
+        &[(
+            RESTORE_20,
+            b"",
+            NONE,
+            7,
+            b"refused damaged kvranges/snapshot.20/0/range,20,1,256 join 1\n",
+        )],
+        &[],
     ),
     (
-        LOG,
-        b"\x00\x07\x00\x00\x00\x00\x00\x0c\x00\x00\x00\x00\x00\x00\x00\x14\x00\x00\x00\x00\x00\x00\x00\x1a\xbd\x1b\x00\x00\x00\x00\x00\x00\x0e\x00\x00\x00\x00\x00\x00\x00\x01\x00\x00\x00\x01\x00\x00\x00a1",
-        b"refused damaged logs/0/log,10,21,2,256 format 1792\n",
+        &[
+            WHOLE,
+            &[(
+                LOG,
+                Some(
+                    b"\x00\x07\x00\x00\x00\x00\x00\x0c\x00\x00\x00\x00\x00\x00\x00\x14\x00\x00\x00\x00\x00\x00\x00\x1a\xbd\x1b\x00\x00\x00\x00\x00\x00\x0e\x00\x00\x00\x00\x00\x00\x00\x01\x00\x00\x00\x01\x00\x00\x00a1",
+                ),
+            )],
+        ],
+        &[(
+            RESTORE_20,
+            b"",
+            NONE,
+            7,
+            b"refused damaged logs/0/log,10,21,2,256 format 1792\n",
+        )],
+        &[],
     ),
     (
-        LOG,
-        b"\xd1\x07\x00\x00\x00\x00\x00\x0c\x00\x00\x00\x00\x00\x00\x00\x14\x00\x00\x00\x00\x00\x00\x00\x1a\xbd\x1b\x00\x00\x00\x00\x00\x00\x0e\x00\x00\x00\x00\x00\x00\x00\x01\x00\x00\x00\x01\x00\x00\x00a",
-        b"refused damaged logs/0/log,10,21,2,256 short 20\n",
+        &[
+            WHOLE,
+            &[(
+                LOG,
+                Some(
+                    b"\xd1\x07\x00\x00\x00\x00\x00\x0c\x00\x00\x00\x00\x00\x00\x00\x14\x00\x00\x00\x00\x00\x00\x00\x1a\xbd\x1b\x00\x00\x00\x00\x00\x00\x0e\x00\x00\x00\x00\x00\x00\x00\x01\x00\x00\x00\x01\x00\x00\x00a",
+                ),
+            )],
+        ],
+        &[(
+            RESTORE_20,
+            b"",
+            NONE,
+            7,
+            b"refused damaged logs/0/log,10,21,2,256 short 20\n",
+        )],
+        &[],
     ),
     (
-        LOG,
-        b"\xd1\x07\x00\x00\x00\x00\x00\x0c\x00\x00\x00\x00\x00\x00\x00\x14\x00\x00\x00\x00\x00\x00\x00\x1a\xbd\x1b\x00\x00\x00\x00\x00\x00\x0e\x00\x00\x00\x00\x00\x00\x00\x01\x00\x00\x00\x01\x00\x00\x00a1\xff\x00",
-        b"refused damaged logs/0/log,10,21,2,256 padding 51\n",
+        &[
+            WHOLE,
+            &[(
+                LOG,
+                Some(
+                    b"\xd1\x07\x00\x00\x00\x00\x00\x0c\x00\x00\x00\x00\x00\x00\x00\x14\x00\x00\x00\x00\x00\x00\x00\x1a\xbd\x1b\x00\x00\x00\x00\x00\x00\x0e\x00\x00\x00\x00\x00\x00\x00\x01\x00\x00\x00\x01\x00\x00\x00a1\xff\x00",
+                ),
+            )],
+        ],
+        &[(
+            RESTORE_20,
+            b"",
+            NONE,
+            7,
+            b"refused damaged logs/0/log,10,21,2,256 padding 51\n",
+        )],
+        &[],
     ),
     (
-        LOG,
-        b"\xd1\x07\x00\x00\x00\x00\x00\x0b\x00\x00\x00\x00\x00\x00\x00\x14\x00\x00\x00\x00\x00\x00\x1a\xbd\x1b\x00\x00\x00\x00\x00\x00\x0e\x00\x00\x00\x00\x00\x00\x00\x01\x00\x00\x00\x01\x00\x00\x00a1",
-        b"refused damaged logs/0/log,10,21,2,256 key-length 4\n",
+        &[
+            WHOLE,
+            &[(
+                LOG,
+                Some(
+                    b"\xd1\x07\x00\x00\x00\x00\x00\x0b\x00\x00\x00\x00\x00\x00\x00\x14\x00\x00\x00\x00\x00\x00\x1a\xbd\x1b\x00\x00\x00\x00\x00\x00\x0e\x00\x00\x00\x00\x00\x00\x00\x01\x00\x00\x00\x01\x00\x00\x00a1",
+                ),
+            )],
+        ],
+        &[(
+            RESTORE_20,
+            b"",
+            NONE,
+            7,
+            b"refused damaged logs/0/log,10,21,2,256 key-length 4\n",
+        )],
+        &[],
     ),
     (
-        LOG,
-        b"\xd1\x07\x00\x00\x00\x00\x00\x0c\x00\x00\x00\x00\x00\x00\x00\x15\x00\x00\x00\x00\x00\x00\x00\x1a\xbd\x1b\x00\x00\x00\x00\x00\x00\x0e\x00\x00\x00\x00\x00\x00\x00\x01\x00\x00\x00\x01\x00\x00\x00a1",
-        b"refused damaged logs/0/log,10,21,2,256 version 4 21\n",
+        &[
+            WHOLE,
+            &[(
+                LOG,
+                Some(
+                    b"\xd1\x07\x00\x00\x00\x00\x00\x0c\x00\x00\x00\x00\x00\x00\x00\x15\x00\x00\x00\x00\x00\x00\x00\x1a\xbd\x1b\x00\x00\x00\x00\x00\x00\x0e\x00\x00\x00\x00\x00\x00\x00\x01\x00\x00\x00\x01\x00\x00\x00a1",
+                ),
+            )],
+        ],
+        &[(
+            RESTORE_20,
+            b"",
+            NONE,
+            7,
+            b"refused damaged logs/0/log,10,21,2,256 version 4 21\n",
+        )],
+        &[],
     ),
     (
-        LOG,
-        b"\xd1\x07\x00\x00\x00\x00\x00\x0c\x00\x00\x00\x00\x00\x00\x00\x14\x00\x00\x00\x01\x00\x00\x00\x1a\xbd\x1b\x00\x00\x00\x00\x00\x00\x0e\x00\x00\x00\x00\x00\x00\x00\x01\x00\x00\x00\x01\x00\x00\x00a1",
-        b"refused damaged logs/0/log,10,21,2,256 part 4 1\n",
+        &[
+            WHOLE,
+            &[(
+                LOG,
+                Some(
+                    b"\xd1\x07\x00\x00\x00\x00\x00\x0c\x00\x00\x00\x00\x00\x00\x00\x14\x00\x00\x00\x01\x00\x00\x00\x1a\xbd\x1b\x00\x00\x00\x00\x00\x00\x0e\x00\x00\x00\x00\x00\x00\x00\x01\x00\x00\x00\x01\x00\x00\x00a1",
+                ),
+            )],
+        ],
+        &[(
+            RESTORE_20,
+            b"",
+            NONE,
+            7,
+            b"refused damaged logs/0/log,10,21,2,256 part 4 1\n",
+        )],
+        &[],
     ),
     (
-        LOG,
-        b"\xd1\x07\x00\x00\x00\x00\x00\x0c\x00\x00\x00\x00\x00\x00\x00\x14\x00\x00\x00\x00\x00\x00\x00\x02\xbd\x1b",
-        b"refused damaged logs/0/log,10,21,2,256 batch 4 short 0\n",
+        &[
+            WHOLE,
+            &[(
+                LOG,
+                Some(
+                    b"\xd1\x07\x00\x00\x00\x00\x00\x0c\x00\x00\x00\x00\x00\x00\x00\x14\x00\x00\x00\x00\x00\x00\x00\x02\xbd\x1b",
+                ),
+            )],
+        ],
+        &[(
+            RESTORE_20,
+            b"",
+            NONE,
+            7,
+            b"refused damaged logs/0/log,10,21,2,256 batch 4 short 0\n",
+        )],
+        &[],
     ),
     (
-        LOG,
-        b"\xd1\x07\x00\x00\x00\x00\x00\x0c\x00\x00\x00\x00\x00\x00\x00\x14\x00\x00\x00\x00\x00\x00\x00\x1a\xbc\x1b\x00\x00\x00\x00\x00\x00\x0e\x00\x00\x00\x00\x00\x00\x00\x01\x00\x00\x00\x01\x00\x00\x00a1",
-        b"refused damaged logs/0/log,10,21,2,256 batch 4 protocol 7100\n",
+        &[
+            WHOLE,
+            &[(
+                LOG,
+                Some(
+                    b"\xd1\x07\x00\x00\x00\x00\x00\x0c\x00\x00\x00\x00\x00\x00\x00\x14\x00\x00\x00\x00\x00\x00\x00\x1a\xbc\x1b\x00\x00\x00\x00\x00\x00\x0e\x00\x00\x00\x00\x00\x00\x00\x01\x00\x00\x00\x01\x00\x00\x00a1",
+                ),
+            )],
+        ],
+        &[(
+            RESTORE_20,
+            b"",
+            NONE,
+            7,
+            b"refused damaged logs/0/log,10,21,2,256 batch 4 protocol 7100\n",
+        )],
+        &[],
     ),
     (
-        LOG,
-        b"\xd1\x07\x00\x00\x00\x00\x00\x0c\x00\x00\x00\x00\x00\x00\x00\x14\x00\x00\x00\x00\x00\x00\x00\x1a\xbd\x1b\x00\x00\x00\x00\x00\x00\x0f\x00\x00\x00\x00\x00\x00\x00\x01\x00\x00\x00\x01\x00\x00\x00a1",
-        b"refused damaged logs/0/log,10,21,2,256 batch 4 length 15 14\n",
+        &[
+            WHOLE,
+            &[(
+                LOG,
+                Some(
+                    b"\xd1\x07\x00\x00\x00\x00\x00\x0c\x00\x00\x00\x00\x00\x00\x00\x14\x00\x00\x00\x00\x00\x00\x00\x1a\xbd\x1b\x00\x00\x00\x00\x00\x00\x0f\x00\x00\x00\x00\x00\x00\x00\x01\x00\x00\x00\x01\x00\x00\x00a1",
+                ),
+            )],
+        ],
+        &[(
+            RESTORE_20,
+            b"",
+            NONE,
+            7,
+            b"refused damaged logs/0/log,10,21,2,256 batch 4 length 15 14\n",
+        )],
+        &[],
     ),
     (
-        LOG,
-        b"\xd1\x07\x00\x00\x00\x00\x00\x0c\x00\x00\x00\x00\x00\x00\x00\x14\x00\x00\x00\x00\x00\x00\x00\x1a\xbd\x1b\x00\x00\x00\x00\x00\x00\x0e\x00\x00\x00\x03\x00\x00\x00\x01\x00\x00\x00\x01\x00\x00\x00a1",
-        b"refused damaged logs/0/log,10,21,2,256 batch 4 code 12 3\n",
+        &[
+            WHOLE,
+            &[(
+                LOG,
+                Some(
+                    b"\xd1\x07\x00\x00\x00\x00\x00\x0c\x00\x00\x00\x00\x00\x00\x00\x14\x00\x00\x00\x00\x00\x00\x00\x1a\xbd\x1b\x00\x00\x00\x00\x00\x00\x0e\x00\x00\x00\x03\x00\x00\x00\x01\x00\x00\x00\x01\x00\x00\x00a1",
+                ),
+            )],
+        ],
+        &[(
+            RESTORE_20,
+            b"",
+            NONE,
+            7,
+            b"refused damaged logs/0/log,10,21,2,256 batch 4 code 12 3\n",
+        )],
+        &[],
     ),
     (
-        LOG,
-        b"\xd1\x07\x00\x00\x00\x00\x00\x0c\x00\x00\x00\x00\x00\x00\x00\x14\x00\x00\x00\x00\x00\x00\x00\x1a\xbd\x1b\x00\x00\x00\x00\x00\x00\x0e\x00\x00\x00\x01\x00\x00\x00\x01\x00\x00\x00\x01\x00\x00\x00ba",
-        b"refused damaged logs/0/log,10,21,2,256 batch 4 backwards 12\n",
+        &[
+            WHOLE,
+            &[(
+                LOG,
+                Some(
+                    b"\xd1\x07\x00\x00\x00\x00\x00\x0c\x00\x00\x00\x00\x00\x00\x00\x14\x00\x00\x00\x00\x00\x00\x00\x1a\xbd\x1b\x00\x00\x00\x00\x00\x00\x0e\x00\x00\x00\x01\x00\x00\x00\x01\x00\x00\x00\x01\x00\x00\x00ba",
+                ),
+            )],
+        ],
+        &[(
+            RESTORE_20,
+            b"",
+            NONE,
+            7,
+            b"refused damaged logs/0/log,10,21,2,256 batch 4 backwards 12\n",
+        )],
+        &[],
     ),
     (
-        SEALED,
-        b"{",
-        b"refused damaged snapshots/snapshot,20,20,23,3 json\n",
+        &[WHOLE, &[(SEALED, Some(b"{"))]],
+        &[(
+            RESTORE_20,
+            b"",
+            NONE,
+            7,
+            b"refused damaged snapshots/snapshot,20,20,23,3 json\n",
+        )],
+        &[],
     ),
     (
-        SEALED,
-        b"[]",
-        b"refused damaged snapshots/snapshot,20,20,23,3 field beginVersion\n",
+        &[WHOLE, &[(SEALED, Some(b"[]"))]],
+        &[(
+            RESTORE_20,
+            b"",
+            NONE,
+            7,
+            b"refused damaged snapshots/snapshot,20,20,23,3 field beginVersion\n",
+        )],
+        &[],
     ),
     (
-        SEALED,
-        b"{\"beginVersion\":20,\"endVersion\":20,\"files\":[\"x\"],\"format\":1,\"totalBytes\":23}",
-        b"refused damaged snapshots/snapshot,20,20,23,3 order 0\n",
+        &[
+            WHOLE,
+            &[(
+                SEALED,
+                Some(
+                    b"{\"beginVersion\":20,\"endVersion\":20,\"files\":[\"x\"],\"format\":1,\"totalBytes\":23}",
+                ),
+            )],
+        ],
+        &[(
+            RESTORE_20,
+            b"",
+            NONE,
+            7,
+            b"refused damaged snapshots/snapshot,20,20,23,3 order 0\n",
+        )],
+        &[],
     ),
     (
-        SEALED,
-        b"{\"beginVersion\":20,\"endVersion\":20,\"files\":[\"kvranges/snapshot.20/0/range,20,1,256\"],\"format\":1,\"totalBytes\":24}",
-        b"refused damaged snapshots/snapshot,20,20,23,3 versions\n",
+        &[
+            WHOLE,
+            &[(
+                SEALED,
+                Some(
+                    b"{\"beginVersion\":20,\"endVersion\":20,\"files\":[\"kvranges/snapshot.20/0/range,20,1,256\"],\"format\":1,\"totalBytes\":24}",
+                ),
+            )],
+        ],
+        &[(
+            RESTORE_20,
+            b"",
+            NONE,
+            7,
+            b"refused damaged snapshots/snapshot,20,20,23,3 versions\n",
+        )],
+        &[],
     ),
     (
-        "box/properties/unreliable_end",
-        b"04",
-        b"refused damaged properties/unreliable_end property\n",
+        &[WHOLE, &[("box/properties/unreliable_end", Some(b"04"))]],
+        &[(
+            RESTORE_20,
+            b"",
+            NONE,
+            7,
+            b"refused damaged properties/unreliable_end property\n",
+        )],
+        &[],
     ),
     (
-        "box/properties/expired_end",
-        b"x",
-        b"refused damaged properties/expired_end property\n",
+        &[WHOLE, &[("box/properties/expired_end", Some(b"x"))]],
+        &[(
+            RESTORE_20,
+            b"",
+            NONE,
+            7,
+            b"refused damaged properties/expired_end property\n",
+        )],
+        &[],
     ),
 ];
-
-#[test]
-fn a_damaged_file_is_named_with_its_first_fault(rt: HostRuntime) -> Result<(), Fail> {
-    for (name, bytes, said) in DAMAGES {
-        assert!(rt; ends(rt.alloc(), &[(name, Some(bytes))], "20", 7, said)?);
-    }
-    Ok(())
-}
 
 // The range file from `a` to `b` without pairs.
 const INNER: &[u8] = b"\xe9\x03\x00\x00\x00\x00\x00\x01a\x00\x00\x00\x01b";
@@ -346,7 +589,7 @@ const INNER: &[u8] = b"\xe9\x03\x00\x00\x00\x00\x00\x01a\x00\x00\x00\x01b";
 const SECOND: &str = "box/kvranges/snapshot.20/0/range,20,2,256";
 
 // The manifest of two range files.
-const BOTH_SEALED: Change<'static> = (
+const BOTH_SEALED: Change = (
     "box/snapshots/snapshot,20,20,46,3",
     Some(
         b"{\"beginVersion\":20,\"endVersion\":20,\"files\":[\"kvranges/snapshot.20/0/range,20,1,256\",\"kvranges/snapshot.20/0/range,20,2,256\"],\"format\":1,\"totalBytes\":46}",
@@ -354,7 +597,7 @@ const BOTH_SEALED: Change<'static> = (
 );
 
 // A log that overlaps with the one of the smallest whole path, and ends later.
-const LONGER: Change<'static> = (
+const LONGER: Change = (
     "box/logs/0/log,15,31,4,256",
     Some(
         b"\xd1\x07\x00\x00\x00\x00\x00\x0c\x00\x00\x00\x00\x00\x00\x00\x14\x00\x00\x00\x00\x00\x00\x00\x1a\xbd\x1b\x00\x00\x00\x00\x00\x00\x0e\x00\x00\x00\x00\x00\x00\x00\x01\x00\x00\x00\x01\x00\x00\x00a9\x00\x00\x00\x0c\x00\x00\x00\x00\x00\x00\x00\x19\x00\x00\x00\x00\x00\x00\x00\x1a\xbd\x1b\x00\x00\x00\x00\x00\x00\x0e\x00\x00\x00\x00\x00\x00\x00\x01\x00\x00\x00\x01\x00\x00\x00a2\x00\x00\x00\x0c\x00\x00\x00\x00\x00\x00\x00\x1a\x00\x00\x00\x00\x00\x00\x00\x1a\xbd\x1b\x00\x00\x00\x00\x00\x00\x0e\x00\x00\x00\x00\x00\x00\x00\x01\x00\x00\x00\x01\x00\x00\x00a3",
@@ -365,66 +608,118 @@ const LONGER: Change<'static> = (
 // missing file is named where it is needed: the log isn't for the manifest's own version, and without
 // its manifest the container advertises nothing. Of two range files that overlap the later one by begin
 // keys is named, of equal begins the manifest's later. Of two logs that overlap the longer is taken.
-const CHANGES: &[(&[Change<'static>], &str, u8, &[u8])] = &[
+pub const CHANGES: &[Case] = &[
     (
-        &[(RANGE, None)],
-        "20",
-        14,
-        b"refused missing kvranges/snapshot.20/0/range,20,1,256\n",
-    ),
-    (&[(LOG, None)], "20", 0, b"version 20\npair a 1\npairs 1\n"),
-    (
-        &[(SEALED, None)],
-        "20",
-        6,
-        b"refused not-restorable none none\n",
+        &[WHOLE, &[(RANGE, None)]],
+        &[(
+            &["restore", "box", "20"],
+            b"",
+            NONE,
+            14,
+            b"refused missing kvranges/snapshot.20/0/range,20,1,256\n",
+        )],
+        &[],
     ),
     (
-        &[(RANGE, None), (LOG, None), (SEALED, None)],
-        "20",
-        13,
-        b"refused no-container\n",
+        &[WHOLE, &[(LOG, None)]],
+        &[(
+            &["restore", "box", "20"],
+            b"",
+            NONE,
+            0,
+            b"version 20\npair a 1\npairs 1\n",
+        )],
+        &[],
     ),
     (
-        &[(SECOND, Some(INNER)), (SEALED, None), BOTH_SEALED],
-        "20",
-        7,
-        b"refused damaged kvranges/snapshot.20/0/range,20,2,256 overlap a\n",
+        &[WHOLE, &[(SEALED, None)]],
+        &[(
+            &["restore", "box", "20"],
+            b"",
+            NONE,
+            6,
+            b"refused not-restorable none none\n",
+        )],
+        &[],
+    ),
+    (
+        &[WHOLE, &[(RANGE, None), (LOG, None), (SEALED, None)]],
+        &[(
+            &["restore", "box", "20"],
+            b"",
+            NONE,
+            13,
+            b"refused no-container\n",
+        )],
+        &[],
+    ),
+    (
+        &[WHOLE, &[(SECOND, Some(INNER)), (SEALED, None), BOTH_SEALED]],
+        &[(
+            &["restore", "box", "20"],
+            b"",
+            NONE,
+            7,
+            b"refused damaged kvranges/snapshot.20/0/range,20,2,256 overlap a\n",
+        )],
+        &[],
     ),
     (
         &[
-            (RANGE, Some(INNER)),
-            (SECOND, Some(RANGE_FILE)),
-            (SEALED, None),
-            BOTH_SEALED,
+            WHOLE,
+            &[
+                (RANGE, Some(INNER)),
+                (SECOND, Some(RANGE_FILE)),
+                (SEALED, None),
+                BOTH_SEALED,
+            ],
         ],
-        "20",
-        7,
-        b"refused damaged kvranges/snapshot.20/0/range,20,1,256 overlap a\n",
+        &[(
+            &["restore", "box", "20"],
+            b"",
+            NONE,
+            7,
+            b"refused damaged kvranges/snapshot.20/0/range,20,1,256 overlap a\n",
+        )],
+        &[],
     ),
     (
-        &[(SECOND, Some(RANGE_FILE)), (SEALED, None), BOTH_SEALED],
-        "20",
-        7,
-        b"refused damaged kvranges/snapshot.20/0/range,20,2,256 overlap \\e\n",
+        &[
+            WHOLE,
+            &[(SECOND, Some(RANGE_FILE)), (SEALED, None), BOTH_SEALED],
+        ],
+        &[(
+            &["restore", "box", "20"],
+            b"",
+            NONE,
+            7,
+            b"refused damaged kvranges/snapshot.20/0/range,20,2,256 overlap \\e\n",
+        )],
+        &[],
     ),
-    (&[LONGER], "25", 0, b"version 25\npair a 2\npairs 1\n"),
+    (
+        &[WHOLE, &[LONGER]],
+        &[(
+            &["restore", "box", "25"],
+            b"",
+            NONE,
+            0,
+            b"version 25\npair a 2\npairs 1\n",
+        )],
+        &[],
+    ),
 ];
 
-#[test]
-fn a_changed_container_is_restored_or_refused(rt: HostRuntime) -> Result<(), Fail> {
-    for (changes, version, status, said) in CHANGES {
-        assert!(rt; ends(rt.alloc(), changes, version, *status, said)?);
-    }
-    Ok(())
-}
-
 // What a description of the changed container comes to.
-const DESCRIPTIONS: &[(&[Change], u8, &[u8])] = &[
+pub const DESCRIPTIONS: &[Case] = &[
     (
-        &[],
-        0,
-        b"container box\n\
+        &[WHOLE],
+        &[(
+            DESCRIBE,
+            b"",
+            NONE,
+            0,
+            b"container box\n\
           snapshot 20 20 23 20\n\
           MinLogBeginVersion 10\n\
           ContiguousLogEndVersion 21\n\
@@ -433,14 +728,23 @@ const DESCRIPTIONS: &[(&[Change], u8, &[u8])] = &[
           MaxRestorableVersion 20\n\
           UnreliableEndVersion none\n\
           ExpiredEndVersion none\n",
+        )],
+        &[],
     ),
     (
         &[
-            ("box/properties/unreliable_end", Some(b"21")),
-            ("box/logs/0/log,30,41,4,256", Some(b"")),
+            WHOLE,
+            &[
+                ("box/properties/unreliable_end", Some(b"21")),
+                ("box/logs/0/log,30,41,4,256", Some(b"")),
+            ],
         ],
-        0,
-        b"container box\n\
+        &[(
+            DESCRIBE,
+            b"",
+            NONE,
+            0,
+            b"container box\n\
           snapshot 20 20 23 none\n\
           MinLogBeginVersion 10\n\
           ContiguousLogEndVersion 21\n\
@@ -449,43 +753,87 @@ const DESCRIPTIONS: &[(&[Change], u8, &[u8])] = &[
           MaxRestorableVersion none\n\
           UnreliableEndVersion 21\n\
           ExpiredEndVersion none\n",
+        )],
+        &[],
     ),
     (
-        &[("box/properties/unreliable_end", Some(b"04"))],
-        7,
-        b"refused damaged properties/unreliable_end property\n",
+        &[WHOLE, &[("box/properties/unreliable_end", Some(b"04"))]],
+        &[(
+            DESCRIBE,
+            b"",
+            NONE,
+            7,
+            b"refused damaged properties/unreliable_end property\n",
+        )],
+        &[],
     ),
     (
-        &[(RANGE, None), (LOG, None), (SEALED, None)],
-        13,
-        b"refused no-container\n",
+        &[WHOLE, &[(RANGE, None), (LOG, None), (SEALED, None)]],
+        &[(DESCRIBE, b"", NONE, 13, b"refused no-container\n")],
+        &[],
     ),
 ];
 
-#[test]
-fn a_container_is_described(rt: HostRuntime) -> Result<(), Fail> {
-    for (changes, status, said) in DESCRIPTIONS {
-        assert!(rt; says(rt.alloc(), changes, &["describe", "box"], *status, said)?);
-    }
-    Ok(())
-}
-
-#[test]
-fn each_failing_call_of_the_store_is_a_refusal(rt: HostRuntime) -> Result<(), Fail> {
-    for call in [1, 2, 3, 4] {
-        assert!(rt; is_store_fault(rt.alloc(), call)?);
-    }
-    Ok(())
-}
-
-// Whether a restore is refused for a failing call of the store, and leaves the files.
-fn is_store_fault(alloc: Global, call: u64) -> Result<bool, AllocError> {
-    let vault = MemVault::new(alloc, &smallest(alloc)?, &[call])?;
-    let mut sink = MemSink::new(alloc, 100, &[])?;
-    let exit = called(alloc, &["restore", "box", "20"], vault, &mut sink)?;
-    Ok(
-        exit.status == 5
-            && fb_bytes::is_same(sink.written().as_slice(), b"refused vault-fault\n")
-            && exit.vault.files().len() == 3,
-    )
-}
+// A failing call of the store is a refusal, and leaves the files.
+pub const STORE_FAULTS: &[Case] = &[
+    (
+        &[WHOLE],
+        &[(
+            RESTORE_20,
+            b"",
+            Failing { store: 1, ..NONE },
+            5,
+            b"refused vault-fault\n",
+        )],
+        &[
+            (RANGE, Some(RANGE_FILE)),
+            (LOG, Some(LOG_FILE)),
+            (SEALED, Some(MANIFEST)),
+        ],
+    ),
+    (
+        &[WHOLE],
+        &[(
+            RESTORE_20,
+            b"",
+            Failing { store: 2, ..NONE },
+            5,
+            b"refused vault-fault\n",
+        )],
+        &[
+            (RANGE, Some(RANGE_FILE)),
+            (LOG, Some(LOG_FILE)),
+            (SEALED, Some(MANIFEST)),
+        ],
+    ),
+    (
+        &[WHOLE],
+        &[(
+            RESTORE_20,
+            b"",
+            Failing { store: 3, ..NONE },
+            5,
+            b"refused vault-fault\n",
+        )],
+        &[
+            (RANGE, Some(RANGE_FILE)),
+            (LOG, Some(LOG_FILE)),
+            (SEALED, Some(MANIFEST)),
+        ],
+    ),
+    (
+        &[WHOLE],
+        &[(
+            RESTORE_20,
+            b"",
+            Failing { store: 4, ..NONE },
+            5,
+            b"refused vault-fault\n",
+        )],
+        &[
+            (RANGE, Some(RANGE_FILE)),
+            (LOG, Some(LOG_FILE)),
+            (SEALED, Some(MANIFEST)),
+        ],
+    ),
+];
