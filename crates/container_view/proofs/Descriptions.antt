@@ -4,8 +4,8 @@ use Rattle.fb_bytes.specs.Bytes.{Bytes}
 use Rattle.container_view.specs.declared.logs.Run.{Run}
 use Rattle.container_view.specs.declared.sorting.SortedNames.{SortedNames}
 use Rattle.container_view.specs.Bounds.{Bounds, reached, advertised_bounds}
-use Rattle.container_view.specs.Names.{logs_named, folder_named}
-use Rattle.container_view.specs.Description.{Snapshot, least_of, greatest_of, log_span, sealed_named, described}
+use Rattle.container_view.specs.Names.{logs_named, sealed_named, folder_named}
+use Rattle.container_view.specs.Description.{Snapshot, least_of, greatest_of, log_span, described}
 use Rattle.container_view.specs.inner.Listed.{AreSorted, TellsReach, reach_in, sizes_of}
 use Rattle.container_view.specs.inner.Names.{snapshot_with}
 
@@ -18,7 +18,7 @@ told names sorted runs unreliable expired end n a same e snapshots begin contigu
     let seals = is_snapshots
     ∙ ap (λ (r : List Run). map (snapshot_with (reach_in r) end) (sizes_of sorted.manifests.items)) p
     ∙ (λ i. map (snapshot_with (λ from. same from i) end) (sizes_of sorted.manifests.items))
-    ∙ ap (map (snapshot_with (reached (logs_named sorted.names.now)) end)) a.sizes
+    ∙ ap (map (snapshot_with (reached (logs_named sorted.names.now)) end)) a.manifests
     ∙ ap (λ (ns : List Bytes). map (snapshot_with (reached (logs_named ns)) end) (sealed_named ns)) n
     ∙ ap (λ (u : ℕ). map (snapshot_with (reached (logs_named names)) u) (sealed_named names)) e in
     let span = a.span ∙ ap (λ (ns : List Bytes). log_span (logs_named ns)) n in

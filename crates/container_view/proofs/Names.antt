@@ -14,11 +14,11 @@ use Rattle.container_view.specs.Chain.{LogLink, comes_first, has_version, log_be
 use Rattle.container_view.specs.Advertised.{gives, manifest_beats, chosen}
 use Rattle.container_view.specs.Bounds.{reached, is_given, given, wider, given_by}
 use Rattle.container_view.specs.Files.{Grammars, as_log, as_manifest, range_files, log_files, manifest_files, unreliable_of}
-use Rattle.container_view.specs.Names.{Link, as_named_log, logs_named, as_named_manifest, manifests_named, folder_named, manifest_name, link_of, named_links, chain_named, AreNamesOf, NamesLaw, seen}
+use Rattle.container_view.specs.Names.{Link, as_named_log, logs_named, as_sealed, sealed_named, manifests_named, folder_named, manifest_name, link_of, named_links, chain_named, AreNamesOf, NamesLaw, seen}
 use Rattle.container_view.specs.inner.Names.{first_of, seen_manifest, better_manifest, given_named}
 use Rattle.container_view.specs.declared.logs.Run.{Run}
 use Rattle.container_view.specs.declared.sorting.NamedManifest.{NamedManifest}
-use Rattle.container_view.specs.inner.Listed.{reach_in, manifest_of, manifests_of}
+use Rattle.container_view.specs.inner.Listed.{reach_in, manifest_of, manifests_of, size_of, sizes_of}
 use Rattle.mutations.proofs.Lengths.{take_item}
 use Rattle.fb_bytes.proofs.Options.{bind_some}
 use Rattle.container_view.proofs.Spans.{wider_none, wider_assoc}
@@ -134,9 +134,9 @@ logs_bare g (f ∷ fs) = (λ i. as_named_log f.name (name_of f.name) ++ logs_bar
 
 manifests_bare : (g : Grammars) (files : List File) → manifests_named (map (λ file. file.name) files) ≡ map bare_manifest (manifest_files g files)
 manifests_bare g [] = refl
-manifests_bare g (f ∷ fs) = (λ i. as_named_manifest f.name (name_of f.name) ++ manifests_bare g fs i) ∙ ap (λ (xs : List ManifestFile). xs ++ map bare_manifest (manifest_files g fs)) (go (name_of f.name)) ∙ sym (map-append bare_manifest (as_manifest g f.name f.bytes (name_of f.name)) (manifest_files g fs))
+manifests_bare g (f ∷ fs) = map-append (λ m. m.file) (as_sealed f.name (name_of f.name)) (sealed_named (map (λ file. file.name) fs)) ∙ (λ i. map (λ m. m.file) (as_sealed f.name (name_of f.name)) ++ manifests_bare g fs i) ∙ ap (λ (xs : List ManifestFile). xs ++ map bare_manifest (manifest_files g fs)) (go (name_of f.name)) ∙ sym (map-append bare_manifest (as_manifest g f.name f.bytes (name_of f.name)) (manifest_files g fs))
   where
-    go : (said : Name) → as_named_manifest f.name said ≡ map bare_manifest (as_manifest g f.name f.bytes said)
+    go : (said : Name) → map (λ m. m.file) (as_sealed f.name said) ≡ map bare_manifest (as_manifest g f.name f.bytes said)
     go (Log begin end ticket block) = refl
     go (Range snapshot version ticket block) = refl
     go (Manifest begin end size ticket) = refl
@@ -276,4 +276,7 @@ module _ (runs : List Run) (logs : List LogFile) (tells : (from : ℕ) → reach
 
 -- one more behind those so far
 pub manifests_more : (ms : List NamedManifest) (i : ℕ) (m : NamedManifest) → i < length ms → m ≡ get_or ms i m → manifests_of (take (i + 1) ms) ≡ manifests_of (take i ms) ++ manifest_of m ∷ []
-manifests_more ms i m h e = ap manifests_of (take_item ms i m h e) ∙ map-append manifest_of (take i ms) (m ∷ [])
+manifests_more ms i m h e =
+    ap manifests_of (take_item ms i m h e)
+    ∙ ap (map (λ x. x.file)) (map-append size_of (take i ms) (m ∷ []))
+    ∙ map-append (λ x. x.file) (sizes_of (take i ms)) (size_of m ∷ [])

@@ -2,20 +2,15 @@
 -- it advertises, and its properties.
 use Rattle.std.specs.Prelude.{ℕ, List, [], ◌∷◌, map, Option, Some, None, Result, Ok}
 use Rattle.std.specs.Prelude.{option_map, unwrap_or}
-use Rattle.std.specs.List.{flat_map}
 use Rattle.fb_bytes.specs.Bytes.{Bytes}
 use Rattle.fb_outside.specs.declared.File.{File}
-use Rattle.file_names.specs.declared.Name.{Name}
-use Rattle.file_names.specs.declared.Name.TheVariants.{Range, Log, Manifest, Unreliable, Expired}
-use Rattle.file_names.specs.declared.Name.TheVariants.{Other}
-use Rattle.file_names.specs.Reading.{name_of}
 pub use Rattle.container_view.specs.declared.describing.Snapshot.{Snapshot}
 pub use Rattle.container_view.specs.declared.describing.Description.{Description}
 use Rattle.container_view.specs.declared.view.ViewFault.{ViewFault}
 use Rattle.container_view.specs.declared.view.ViewFault.TheVariants as faults
 use Rattle.container_view.specs.Bounds.{Bounds, reached, given, wider, advertised_bounds}
-use Rattle.container_view.specs.Folder.{LogFile, ManifestFile, Folder}
-use Rattle.container_view.specs.Names.{folder_named}
+use Rattle.container_view.specs.Folder.{LogFile, Folder}
+use Rattle.container_view.specs.Names.{Sealed, sealed_named, folder_named}
 use Rattle.container_view.specs.Sets.{with_properties}
 
 abbrev pub greatest_of : Option Bounds → Option ℕ
@@ -23,28 +18,6 @@ greatest_of bounds = option_map (λ (b : Bounds). b.greatest) bounds
 
 abbrev pub least_of : Option Bounds → Option ℕ
 least_of bounds = option_map (λ (b : Bounds). b.least) bounds
-
--- a manifest of which only the name is known, and the bytes that the name says
-pub record Sealed : Type 0 where
-  pub file : ManifestFile
-  pub bytes : ℕ
-
--- the manifest of a name, where it is that of one
-abbrev pub as_sealed : Bytes → Name → List Sealed
-as_sealed name (Manifest begin end size ticket) =
-    record {
-      file = record { name = name; begin = begin; end = end; content = None };
-      bytes = size;
-    } ∷ []
-as_sealed name (Range snapshot version ticket block) = []
-as_sealed name (Log begin end ticket block) = []
-as_sealed name Unreliable = []
-as_sealed name Expired = []
-as_sealed name Other = []
-
--- the manifests among these names, in the order of the names
-abbrev pub sealed_named : List Bytes → List Sealed
-sealed_named names = flat_map (λ name. as_sealed name (name_of name)) names
 
 -- a snapshot, by its manifest, with the greatest version that the manifest gives
 abbrev pub snapshot_of : Folder → Sealed → Snapshot

@@ -49,19 +49,31 @@ named_links found = option_map (map link_of) found
 abbrev pub chain_named : List Bytes → ℕ → ℕ → Option (List Link)
 chain_named names from to = named_links (links (to - from) (logs_named names) from to)
 
--- a manifest of which only the name is known
-abbrev pub as_named_manifest : Bytes → Name → List ManifestFile
-as_named_manifest name (Manifest begin end size ticket) =
-    record { name = name; begin = begin; end = end; content = None } ∷ []
-as_named_manifest name (Range snapshot version ticket block) = []
-as_named_manifest name (Log begin end ticket block) = []
-as_named_manifest name Unreliable = []
-as_named_manifest name Expired = []
-as_named_manifest name Other = []
+-- a manifest of which only the name is known, and the bytes that the name says
+pub record Sealed : Type 0 where
+  pub file : ManifestFile
+  pub bytes : ℕ
+
+-- the manifest of a name, where it is that of one
+abbrev pub as_sealed : Bytes → Name → List Sealed
+as_sealed name (Manifest begin end size ticket) =
+    record {
+      file = record { name = name; begin = begin; end = end; content = None };
+      bytes = size;
+    } ∷ []
+as_sealed name (Range snapshot version ticket block) = []
+as_sealed name (Log begin end ticket block) = []
+as_sealed name Unreliable = []
+as_sealed name Expired = []
+as_sealed name Other = []
+
+-- the manifests among these names with their bytes, in the order of the names
+abbrev pub sealed_named : List Bytes → List Sealed
+sealed_named names = flat_map (λ name. as_sealed name (name_of name)) names
 
 -- the manifests among these names
 abbrev pub manifests_named : List Bytes → List ManifestFile
-manifests_named names = flat_map (λ name. as_named_manifest name (name_of name)) names
+manifests_named names = map (λ m. m.file) (sealed_named names)
 
 -- the log files and the manifests among these names, as a folder
 abbrev pub folder_named : List Bytes → ℕ → Folder

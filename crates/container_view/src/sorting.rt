@@ -1,9 +1,9 @@
 //! The names of a container's files, parsed once for all that is looked up in them.
 
 ghost use Rattle.std.specs.Prelude.{◌≡◌, ◌++◌, IfOk, OnOk};
-ghost use Rattle.container_view.specs.Names.{as_named_manifest, manifests_named};
-ghost use Rattle.container_view.specs.Description.{as_sealed, sealed_named, log_span};
-ghost use Rattle.container_view.specs.inner.Listed.{log_named, listed, plain_logs, logs_of, manifests_of, sizes_of, AreSorted};
+ghost use Rattle.container_view.specs.Names.{as_sealed, sealed_named};
+ghost use Rattle.container_view.specs.Description.{log_span};
+ghost use Rattle.container_view.specs.inner.Listed.{log_named, listed, plain_logs, logs_of, sizes_of, AreSorted};
 ghost use Rattle.file_names.specs.Reading.{name_of};
 
 use crate::Bounds;
@@ -64,10 +64,8 @@ pub(crate) fn sorted_names(alloc: Global, names: &Names) -> Result<SortedNames<'
 /// The same in the order of the names.
 fn parsed<'a>(alloc: Global, names: &'a [Text]) -> Result<Found<'a>, AllocError>
     ensures logs { IfOk result (λ parsed. logs_of parsed.logs.items ≡ plain_logs names.now) }
-    ensures manifests { IfOk result
-        (λ parsed. manifests_of parsed.manifests.items ≡ manifests_named names.now) }
     ensures span { IfOk result (λ parsed. parsed.span ≡ log_span (logs_of parsed.logs.items)) }
-    ensures sizes { IfOk result
+    ensures manifests { IfOk result
         (λ parsed. sizes_of parsed.manifests.items ≡ sealed_named names.now) }
 {
     let mut parsed = Found {
@@ -86,12 +84,9 @@ fn note<'a>(parsed: &mut Found<'a>, name: &'a Text) -> Result<(), AllocError>
     ensures logs { OnOk result
         (logs_of parsed.new.logs.items ≡ logs_of parsed.old.logs.items
         ++ listed (log_named name.now (name_of name.now))) }
-    ensures manifests { OnOk result
-        (manifests_of parsed.new.manifests.items ≡ manifests_of parsed.old.manifests.items
-        ++ as_named_manifest name.now (name_of name.now)) }
     ensures span { OnOk result (parsed.old.span ≡ log_span (logs_of parsed.old.logs.items)
         → parsed.new.span ≡ log_span (logs_of parsed.new.logs.items)) }
-    ensures sizes { OnOk result
+    ensures manifests { OnOk result
         (sizes_of parsed.new.manifests.items ≡ sizes_of parsed.old.manifests.items
         ++ as_sealed name.now (name_of name.now)) }
 {

@@ -14,8 +14,8 @@ use Rattle.container_view.specs.declared.sorting.SortedNames.{SortedNames}
 use Rattle.container_view.specs.Folder.{LogFile, ManifestFile}
 use Rattle.container_view.specs.Chain.{comes_first, best_log}
 use Rattle.container_view.specs.Bounds.{reached}
-use Rattle.container_view.specs.Names.{seen, logs_named, manifests_named}
-use Rattle.container_view.specs.Description.{Sealed, sealed_named, log_span}
+use Rattle.container_view.specs.Names.{seen, logs_named, Sealed, sealed_named}
+use Rattle.container_view.specs.Description.{log_span}
 
 -- a log file of which the name, the begin and the end are known
 abbrev pub plain_log : Bytes → ℕ → ℕ → LogFile
@@ -34,10 +34,6 @@ logs_of logs = map log_of logs
 abbrev pub manifest_of : NamedManifest → ManifestFile
 manifest_of m = record { name = m.name.now; begin = m.begin; end = m.end; content = None }
 
--- manifests by their names, as a folder has them
-abbrev pub manifests_of : List NamedManifest → List ManifestFile
-manifests_of manifests = map manifest_of manifests
-
 -- a manifest with the bytes that its name says
 abbrev pub size_of : NamedManifest → Sealed
 size_of m = record { file = manifest_of m; bytes = m.bytes }
@@ -45,6 +41,10 @@ size_of m = record { file = manifest_of m; bytes = m.bytes }
 -- manifests with the bytes that their names say
 abbrev pub sizes_of : List NamedManifest → List Sealed
 sizes_of manifests = map size_of manifests
+
+-- manifests by their names, as a folder has them
+abbrev pub manifests_of : List NamedManifest → List ManifestFile
+manifests_of manifests = map (λ m. m.file) (sizes_of manifests)
 
 -- the log file of a name, where it is that of one
 abbrev pub log_named : Bytes → Name → Option LogFile
@@ -123,13 +123,12 @@ abbrev pub HaveSameBest : List LogFile → List LogFile → Type 0
 HaveSameBest a b = (version : ℕ) → seen (best_log a version) ≡ seen (best_log b version)
 
 -- the logs stand in the order of their begins, and have the same best ones as those among the
--- names; the manifests are those among the names
+-- names; the manifests with their bytes are those among the names
 pub record AreSorted (sorted : SortedNames) : Type 0 where
   pub rising : IsRisingBy (λ log. log.begin) 0 sorted.logs.items
   pub same : HaveSameBest (logs_of sorted.logs.items) (logs_named sorted.names.now)
-  pub manifests : manifests_of sorted.manifests.items ≡ manifests_named sorted.names.now
   pub span : sorted.span ≡ log_span (logs_named sorted.names.now)
-  pub sizes : sizes_of sorted.manifests.items ≡ sealed_named sorted.names.now
+  pub manifests : sizes_of sorted.manifests.items ≡ sealed_named sorted.names.now
 
 -- what is found in the first list is the best log of the second, at each version
 abbrev pub TellsBest : List LogFile → List LogFile → Type 0

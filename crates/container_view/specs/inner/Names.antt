@@ -5,7 +5,8 @@ use Rattle.fb_bytes.specs.Bytes.{Bytes}
 use Rattle.container_view.specs.Folder.{ManifestFile}
 use Rattle.container_view.specs.Chain.{comes_first}
 use Rattle.container_view.specs.Bounds.{Bounds, is_given}
-use Rattle.container_view.specs.Description.{Sealed, Snapshot, greatest_of}
+use Rattle.container_view.specs.Names.{Sealed}
+use Rattle.container_view.specs.Description.{Snapshot, greatest_of}
 
 -- the first of a name with an end and another one
 abbrev pub first_of : Bytes → ℕ → Option (Bytes × ℕ) → Option (Bytes × ℕ)
