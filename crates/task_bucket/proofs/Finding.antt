@@ -1,9 +1,9 @@
 -- The place of a task, where the uids rise, and what a change at that place is.
-use Rattle.std.proofs.Common.{◌≡◌, ℕ, zero, suc, ◌+◌, ◌<◌, ◌≤◌, Bool, true, false, not, cond, ◌&&◌, ltb, leb, eqb, List, [], ◌∷◌, length, get_or, set, map, Option, Some, None, refl, sym, ap, ◌∙◌, arith}
+use Rattle.std.proofs.Common.{◌≡◌, ℕ, zero, suc, ◌+◌, ◌<◌, ◌≤◌, Bool, true, false, not, cond, ◌&&◌, ltb, eqb, List, [], ◌∷◌, length, get_or, set, map, Option, Some, None, refl, sym, ap, ◌∙◌, arith}
 use Rattle.std.specs.List.{filter, remove, AllByRecursion}
 use Rattle.std.proofs.lemmas.Bool.{ne_eqb, lt-ltb, le-ltb, ltb-true, ltb-false, lt-leb, leb-false}
 use Rattle.task_bucket.specs.declared.held.Held.{Held}
-use Rattle.task_bucket.specs.inner.Held.{ArePast, AreRising, held_is, first_held, lesser_count, retimed_held}
+use Rattle.task_bucket.specs.inner.Held.{ArePast, AreRising, held_is, first_held, is_upto, is_lesser, lesser_count, retimed_held}
 use Rattle.fb_bytes.proofs.Halving.{Falls}
 
 past_at : (u : ℕ) (hs : List Held) (j : ℕ) (d : Held) → ArePast u hs → j < length hs → u < (get_or hs j d).uid
@@ -11,20 +11,20 @@ past_at u [] j d p lt = absurd (omega arith)
 past_at u (h ∷ hs) zero d p lt = p.0
 past_at u (h ∷ hs) (suc j) d p lt = past_at u hs j d p.1 (omega arith)
 
-less_past : (uid u : ℕ) (hs : List Held) → uid ≤ u → ArePast u hs → AllByRecursion (λ (h : Held). ltb h.uid uid ≡ false) hs
+less_past : (uid u : ℕ) (hs : List Held) → uid ≤ u → ArePast u hs → AllByRecursion (λ (h : Held). is_lesser uid h ≡ false) hs
 less_past uid u [] le p = tt
 less_past uid u (h ∷ hs) le p = (le-ltb h.uid uid (omega (arith, p.0, le)), less_past uid u hs le p.1)
 
 -- once one hasn't a lesser uid, none behind it has
-pub less_falls : (uid : ℕ) (hs : List Held) → AreRising hs → Falls (λ (h : Held). ltb h.uid uid) hs
+pub less_falls : (uid : ℕ) (hs : List Held) → AreRising hs → Falls (is_lesser uid) hs
 less_falls uid [] r = tt
 less_falls uid (h ∷ hs) r = ((λ e. less_past uid h.uid hs (ltb-false h.uid uid e) r.0), less_falls uid hs r.1)
 
-upto_past : (uid u : ℕ) (hs : List Held) → uid ≤ u → ArePast u hs → AllByRecursion (λ (h : Held). leb h.uid uid ≡ false) hs
+upto_past : (uid u : ℕ) (hs : List Held) → uid ≤ u → ArePast u hs → AllByRecursion (λ (h : Held). is_upto uid h ≡ false) hs
 upto_past uid u [] le p = tt
 upto_past uid u (h ∷ hs) le p = (lt-leb h.uid uid (omega (arith, p.0, le)), upto_past uid u hs le p.1)
 
-pub upto_falls : (uid : ℕ) (hs : List Held) → AreRising hs → Falls (λ (h : Held). leb h.uid uid) hs
+pub upto_falls : (uid : ℕ) (hs : List Held) → AreRising hs → Falls (is_upto uid) hs
 upto_falls uid [] r = tt
 upto_falls uid (h ∷ hs) r = ((λ e. let more = leb-false h.uid uid e in upto_past uid h.uid hs (omega (arith, more)) r.0), upto_falls uid hs r.1)
 

@@ -8,7 +8,7 @@ use Rattle.std.proofs.lemmas.List.Sums.{count_by-le-length}
 use Rattle.fb_bytes.proofs.Mapped.{mapped, mapped-step, mapped-all, drop-all}
 use Rattle.task_bucket.specs.declared.held.Held.{Held}
 use Rattle.task_bucket.specs.Lists.{Slot}
-use Rattle.task_bucket.specs.inner.Held.{slot_in, slots_in, free_count, ArePast, AreRising, lesser_count, picked_place, later_place, woken}
+use Rattle.task_bucket.specs.inner.Held.{slot_in, free_count, ArePast, AreRising, lesser_count, picked_place, later_place, woken}
 use Rattle.task_bucket.proofs.Views.{rising_map, count_cons}
 use Rattle.task_bucket.proofs.Picks.{step_of}
 use Rattle.task_bucket.proofs.Walks.{pick_onto, onto_picked}

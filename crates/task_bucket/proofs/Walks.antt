@@ -10,7 +10,7 @@ use Rattle.fb_bytes.proofs.Mapped.{Searches, skips, stops, ends}
 use Rattle.task_bucket.specs.declared.held.Held.{Held}
 use Rattle.task_bucket.specs.Lists.{Slot}
 use Rattle.task_bucket.specs.Claims.{picked}
-use Rattle.task_bucket.specs.inner.Held.{slot_in, slots_in, ArePast, AreRising, place_for, place_at, lesser_count, picked_place}
+use Rattle.task_bucket.specs.inner.Held.{slot_in, slots_in, ArePast, AreRising, is_upto, place_for, place_at, lesser_count, picked_place}
 use Rattle.task_bucket.proofs.Views.{past_less}
 use Rattle.task_bucket.proofs.Picks.{AreBelow, step_of, picked_push}
 use Rattle.task_bucket.proofs.Finding.{lesser_at}
@@ -197,7 +197,7 @@ first_picked pick hs r =
 -- ---- the loop
 
 place_within : (uid : ℕ) (hs : List Held) → place_for uid hs ≤ length hs
-place_within uid hs = prefix_len-le-length (λ h. leb h.uid uid) hs
+place_within uid hs = prefix_len-le-length (is_upto uid) hs
 
 -- what is left of the walk decides
 abbrev pub IsWalked : ℕ → List Held → ℕ → Type 0

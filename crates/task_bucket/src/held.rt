@@ -38,7 +38,7 @@ impl Held {
     pub fn free_count(&self) -> usize
         ensures { result ≡ (if self.now.free then 1 else 0) }
     {
-        if self.free { 1 } else { 0 }
+        usize::from(self.free)
     }
 
     fn until(&self) -> Option<u64>

@@ -1,5 +1,5 @@
 -- One list of tasks, and the two lists that it stands for.
-use Rattle.std.specs.Prelude.{◌≡◌, ℕ, ◌-◌, ◌<◌, Bool, false, ◌&&◌, ◌||◌, not, List, [], ◌∷◌}
+use Rattle.std.specs.Prelude.{◌≡◌, ℕ, ◌-◌, ◌<◌, Bool, false, ◌&&◌, not, List, [], ◌∷◌}
 use Rattle.std.specs.Prelude.{Option, Some, None, option_map, zero, suc, nat_lt, nat_le, ◌==◌}
 use Rattle.std.specs.Prelude.{if◌then◌else◌}
 use Rattle.std.specs.List.{prefix_len, count_by}
@@ -53,13 +53,19 @@ held_is until uid held = not held.free && held.until == until && held.uid == uid
 
 -- ---- places
 
--- before the first with a greater uid, where the uids rise
+-- how many at the front have uids up to this one
+abbrev pub is_upto : ℕ → Held → Bool
+is_upto uid held = nat_le held.uid uid
+
 abbrev pub place_for : ℕ → List Held → ℕ
-place_for uid hs = prefix_len (λ h. nat_le h.uid uid) hs
+place_for uid hs = prefix_len (is_upto uid) hs
 
 -- how many at the front have lesser uids
+abbrev pub is_lesser : ℕ → Held → Bool
+is_lesser uid held = nat_lt held.uid uid
+
 abbrev pub lesser_count : ℕ → List Held → ℕ
-lesser_count uid hs = prefix_len (λ h. nat_lt h.uid uid) hs
+lesser_count uid hs = prefix_len (is_lesser uid) hs
 
 -- the place of a step down from a place, and then up from it
 abbrev pub place_at : ℕ → ℕ → ℕ

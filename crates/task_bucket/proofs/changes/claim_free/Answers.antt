@@ -1,4 +1,4 @@
-use Rattle.std.proofs.Common.{◌≡◌, arith}
+use Rattle.std.proofs.Common.{arith}
 use Rattle.task_bucket.proofs.Claiming.{GoneBack, gone_none, place_picked, claims, claims_none}
 use Rattle.task_bucket.proofs.changes.claim_free.Goals as goal
 

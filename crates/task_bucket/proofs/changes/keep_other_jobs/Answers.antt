@@ -1,4 +1,4 @@
-use Rattle.std.proofs.Common.{arith, ap, sym, ◌∙◌}
+use Rattle.std.proofs.Common.{arith, sym}
 use Rattle.task_bucket.proofs.Keeping.{drops_one, keeps_one}
 use Rattle.task_bucket.proofs.changes.keep_other_jobs.Goals as goal
 

@@ -1,4 +1,4 @@
-use Rattle.std.proofs.Common.{◌≡◌, ◌<◌, Bool, length, sym, subst, ap, ◌∙◌, arith}
+use Rattle.std.proofs.Common.{◌<◌, Bool, length, sym, subst, ap, ◌∙◌, arith}
 use Rattle.task_bucket.specs.declared.held.Held.{Held}
 use Rattle.task_bucket.specs.inner.Held.{AreRising, held_is, lesser_count}
 use Rattle.task_bucket.proofs.Finding.{lease_of_uid, out_none, out_there, out_other}
