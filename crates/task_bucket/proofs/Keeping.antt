@@ -1,9 +1,9 @@
 -- A loop that moves the tasks of other jobs to the front, and counts those that are available.
-use Rattle.std.proofs.Common.{◌≡◌, ℕ, ◌+◌, ◌<◌, ◌≤◌, Bool, true, false, cond, not, eqb, List, [], ◌∷◌, ◌++◌, length, get_or, take, drop, sym, ap, ◌∙◌, arith}
+use Rattle.std.proofs.Common.{◌≡◌, ℕ, ◌+◌, ◌<◌, Bool, true, false, cond, not, eqb, List, [], ◌∷◌, ◌++◌, length, get_or, take, drop, sym, ap, ◌∙◌, arith}
 use Rattle.std.specs.List.{filter, SwappedAt}
 use Rattle.std.proofs.lemmas.List.{get_or-drop}
 use Rattle.std.proofs.lemmas.List.Elements.{filter_more}
-use Rattle.std.proofs.lemmas.List.Filters.{FiltersInPlace, FiltersInPlace-all, FiltersInPlace-more_no, FiltersInPlace-more_swap}
+use Rattle.std.proofs.lemmas.List.Filters.{FiltersInPlace, FiltersInPlace-more_no, FiltersInPlace-more_swap}
 use Rattle.std.proofs.lemmas.List.Sums.{sum_by_push}
 use Rattle.task_bucket.specs.declared.held.Held.{Held}
 use Rattle.task_bucket.specs.inner.Held.{free_count}
@@ -33,19 +33,9 @@ keeps_one job old new swapped kept at free more x lt here e is s so =
     let within : at < length old = omega (arith, lt, before.long) in
     let same : get_or old at x ≡ x = sym (here ∙ at_drop new old at x before.rest) in
     let front : take (kept + 1) swapped ≡ take kept new ++ x ∷ [] =
-        in_place.front ∙ filter_more (is_other job) old at x within
-        ∙ ap (λ (y : Held). filter (is_other job) (take at old) ++ cond (is_other job y) (y ∷ []) []) same
-        ∙ ap (λ (b : Bool). filter (is_other job) (take at old) ++ cond (not b) (x ∷ []) []) e
-        ∙ ap (λ (hs : List Held). hs ++ x ∷ []) (sym before.front) in
+    in_place.front ∙ filter_more (is_other job) old at x within
+    ∙ ap (λ (y : Held). filter (is_other job) (take at old) ++ cond (is_other job y) (y ∷ []) []) same
+    ∙ ap (λ (b : Bool). filter (is_other job) (take at old) ++ cond (not b) (x ∷ []) []) e
+    ∙ ap (λ (hs : List Held). hs ++ x ∷ []) (sym before.front) in
     let counts : free_count (take (kept + 1) swapped) ≡ free_count (take kept new) + cond x.free 1 0 = ap free_count front ∙ sum_by_push (λ (h : Held). cond h.free 1 0) (take kept new) x in
     record { in_place = in_place; counted = omega (arith, counts, so.counted, is) }
-
-pub record IsKept (job : ℕ) (old new : List Held) (free : ℕ) : Type 0 where
-  pub items : new ≡ filter (is_other job) old
-  pub counted : free ≡ free_count new
-
-pub keeping_ends : (job : ℕ) (old new left : List Held) (kept at free : ℕ) → length old ≤ at → left ≡ take kept new → IsKeeping job old new kept at free → IsKept job old left free
-keeping_ends job old new left kept at free le is so = record {
-  items = is ∙ FiltersInPlace-all so.in_place le;
-  counted = so.counted ∙ ap free_count (sym is);
-}

@@ -3,8 +3,6 @@ use Rattle.std.proofs.Common.{◌≡◌, ℕ, zero, suc, ◌+◌, ◌<◌, ◌�
 use Rattle.std.specs.Option.{option_map}
 use Rattle.std.proofs.Math.Seq.{drop-cons}
 use Rattle.std.proofs.lemmas.Bool.{lt-ltb, le-ltb, leb-true, leb-false}
-use Rattle.std.proofs.lemmas.List.{length-map}
-use Rattle.std.proofs.lemmas.List.Sums.{count_by-le-length}
 use Rattle.fb_bytes.proofs.Mapped.{mapped, mapped-step, mapped-all, drop-all}
 use Rattle.task_bucket.specs.declared.held.Held.{Held}
 use Rattle.task_bucket.specs.Lists.{Slot}
@@ -62,9 +60,6 @@ pub record IsWaking (now pick : ℕ) (old held : List Held) (at count : ℕ) (pl
   pub counted : count + free_count (map (woken now) (drop at old)) ≡ free_count (map (woken now) old)
   pub noted_so : place_onto pick at place (map (woken now) (drop at old)) ≡ place_onto pick 0 None (map (woken now) old)
 
-pub waking_none : (now pick : ℕ) (old : List Held) → IsWaking now pick old old 0 0 None
-waking_none now pick old = record { is_mapped = refl; counted = omega arith; noted_so = refl }
-
 untouched : (f : Held → Held) (i : ℕ) (xs : List Held) (d : Held) → get_or (mapped f i xs) i d ≡ get_or xs i d
 untouched f zero xs d = refl
 untouched f (suc i) [] d = refl
@@ -90,7 +85,7 @@ wakes_one now pick old held at count place x d lt is so =
     let count_all : count + (cond x.free 1 0 + free_count rest) ≡ free_count (map (woken now) old) = ap (λ (n : ℕ). count + n) (sym (count_cons x (map (woken now) (drop (at + 1) old)))) ∙ ap (λ (hs : List Held). count + free_count hs) (sym all) ∙ so.counted in
     let one : suc at ≡ at + 1 = omega arith in
     let note_all : place_onto pick (at + 1) (cond x.free (Some (later_place (leb x.uid pick) at place)) place) rest ≡ place_onto pick 0 None (map (woken now) old) =
-        ap (λ (n : ℕ). place_onto pick n (cond x.free (Some (later_place (leb x.uid pick) at place)) place) rest) (sym one) ∙ ap (place_onto pick at place) (sym all) ∙ so.noted_so in
+    ap (λ (n : ℕ). place_onto pick n (cond x.free (Some (later_place (leb x.uid pick) at place)) place) rest) (sym one) ∙ ap (place_onto pick at place) (sym all) ∙ so.noted_so in
     record {
       due = λ e. record {
         is_mapped = made;
@@ -103,10 +98,6 @@ wakes_one now pick old held at count place x d lt is so =
         noted_so = ap (λ (b : Bool). place_onto pick (at + 1) (cond b (Some (later_place (leb x.uid pick) at place)) place) rest) (sym e) ∙ note_all;
       };
     }
-
--- the count is that of some of the tasks
-pub waking_fits : (now pick : ℕ) (old held : List Held) (at count : ℕ) (place : Option ℕ) (d : Held) → at < length old → IsWaking now pick old held at count place → count ≤ length old
-waking_fits now pick old held at count place d lt so = omega (arith, so.counted, count_by-le-length (λ (h : Held). h.free) (map (woken now) old), length-map old (woken now))
 
 -- what the whole pass has made
 pub record IsWoken (now pick : ℕ) (old held : List Held) (count : ℕ) (place : Option ℕ) : Type 0 where

@@ -7,7 +7,9 @@ ghost use Rattle.task_bucket.specs.Claims.{claimed, after_claim};
 ghost use Rattle.task_bucket.specs.Leases.{extended_in, retimed_in, finished_in};
 ghost use Rattle.task_bucket.specs.inner.Held.{AreRising, AreCounted, free_count, held_is, lists_in, put_into};
 
-use crate::held::{Held, find, is_leased, lease_again, lease_out, picked, place_for, place_of, retime, wake};
+use crate::held::{
+    Held, find, is_leased, lease_again, lease_out, picked, place_for, place_of, retime, wake,
+};
 use crate::{Lease, LeaseFault};
 use std::alloc::AllocError;
 
