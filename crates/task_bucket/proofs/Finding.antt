@@ -1,59 +1,41 @@
 -- The place of a task, where the uids rise, and what a change at that place is.
-use Rattle.std.proofs.Common.{◌≡◌, ℕ, zero, suc, ◌+◌, ◌<◌, ◌≤◌, Bool, true, false, not, cond, ◌&&◌, ltb, leb, eqb, List, [], ◌∷◌, length, get_or, set, map, Option, Some, None, refl, sym, ap, ◌∙◌, arith}
-use Rattle.std.specs.List.{filter, remove}
-use Rattle.std.specs.List.Sorted.{IsPartitionedBy, IsPartitionPoint}
-use Rattle.std.proofs.lemmas.Bool.{ne_eqb, lt-ltb, le-ltb, ltb-true, ltb-false, le-leb, leb-true, leb-false}
+use Rattle.std.proofs.Common.{◌≡◌, ℕ, zero, suc, ◌+◌, ◌<◌, ◌≤◌, Bool, true, false, not, cond, ◌&&◌, ltb, eqb, List, [], ◌∷◌, length, get_or, set, map, Option, Some, None, refl, sym, ap, ◌∙◌, arith}
+use Rattle.std.specs.List.{filter, remove, AllByRecursion}
+use Rattle.std.proofs.lemmas.Bool.{ne_eqb, lt-ltb, le-ltb, ltb-true, ltb-false, lt-leb, leb-false}
 use Rattle.task_bucket.specs.declared.held.Held.{Held}
-use Rattle.task_bucket.specs.inner.Held.{ArePast, AreRising, until_is, held_is, first_held, place_for, lesser_count, leased_if, retimed_until, retimed_held}
+use Rattle.task_bucket.specs.inner.Held.{ArePast, AreRising, held_is, first_held, is_upto, is_lesser, lesser_count, retimed_held}
+use Rattle.fb_bytes.proofs.Halving.{Falls}
 
 past_at : (u : ℕ) (hs : List Held) (j : ℕ) (d : Held) → ArePast u hs → j < length hs → u < (get_or hs j d).uid
 past_at u [] j d p lt = absurd (omega arith)
 past_at u (h ∷ hs) zero d p lt = p.0
 past_at u (h ∷ hs) (suc j) d p lt = past_at u hs j d p.1 (omega arith)
 
-pub less_parted : (uid : ℕ) (hs : List Held) → AreRising hs → IsPartitionedBy (λ (h : Held). ltb h.uid uid) hs
-less_parted uid [] r i j d le lt e = absurd (omega arith)
-less_parted uid (h ∷ hs) r zero zero d le lt e = e
-less_parted uid (h ∷ hs) r zero (suc j) d le lt e =
-    let up = past_at h.uid hs j d r.0 (omega arith) in
-    let low = ltb-true (get_or hs j d).uid uid e in
-    lt-ltb h.uid uid (omega (arith, up, low))
-less_parted uid (h ∷ hs) r (suc i) zero d le lt e = absurd (omega arith)
-less_parted uid (h ∷ hs) r (suc i) (suc j) d le lt e = less_parted uid hs r.1 i j d (omega arith) (omega arith) e
+less_past : (uid u : ℕ) (hs : List Held) → uid ≤ u → ArePast u hs → AllByRecursion (λ (h : Held). is_lesser uid h ≡ false) hs
+less_past uid u [] le p = tt
+less_past uid u (h ∷ hs) le p = (le-ltb h.uid uid (omega (arith, p.0, le)), less_past uid u hs le p.1)
 
-pub upto_parted : (uid : ℕ) (hs : List Held) → AreRising hs → IsPartitionedBy (λ (h : Held). leb h.uid uid) hs
-upto_parted uid [] r i j d le lt e = absurd (omega arith)
-upto_parted uid (h ∷ hs) r zero zero d le lt e = e
-upto_parted uid (h ∷ hs) r zero (suc j) d le lt e =
-    let up = past_at h.uid hs j d r.0 (omega arith) in
-    let low = leb-true (get_or hs j d).uid uid e in
-    le-leb h.uid uid (omega (arith, up, low))
-upto_parted uid (h ∷ hs) r (suc i) zero d le lt e = absurd (omega arith)
-upto_parted uid (h ∷ hs) r (suc i) (suc j) d le lt e = upto_parted uid hs r.1 i j d (omega arith) (omega arith) e
+-- once one hasn't a lesser uid, none behind it has
+pub less_falls : (uid : ℕ) (hs : List Held) → AreRising hs → Falls (is_lesser uid) hs
+less_falls uid [] r = tt
+less_falls uid (h ∷ hs) r = ((λ e. less_past uid h.uid hs (ltb-false h.uid uid e) r.0), less_falls uid hs r.1)
 
-suc_is : (n : ℕ) → suc n ≡ n + 1
-suc_is n = omega arith
+upto_past : (uid u : ℕ) (hs : List Held) → uid ≤ u → ArePast u hs → AllByRecursion (λ (h : Held). is_upto uid h ≡ false) hs
+upto_past uid u [] le p = tt
+upto_past uid u (h ∷ hs) le p = (lt-leb h.uid uid (omega (arith, p.0, le)), upto_past uid u hs le p.1)
 
-pub lesser_is : (uid : ℕ) (hs : List Held) (i : ℕ) → i ≤ length hs → IsPartitionPoint (λ (h : Held). ltb h.uid uid ≡ true) (λ (h : Held). ltb h.uid uid ≡ false) hs i → i ≡ lesser_count uid hs
-lesser_is uid [] zero le h = refl
-lesser_is uid [] (suc i) le h = absurd (omega arith)
-lesser_is uid (x ∷ xs) zero le h = sym (ap (λ (b : Bool). cond b (lesser_count uid xs + 1) 0) (h.1 0 x (omega arith) (omega arith)))
-lesser_is uid (x ∷ xs) (suc i) le h =
-    ap suc (lesser_is uid xs i (omega arith) ((λ k d l u. h.0 (suc k) d (omega arith) (omega arith)), (λ k d l u. h.1 (suc k) d (omega arith) (omega arith))))
-    ∙ suc_is (lesser_count uid xs)
-    ∙ sym (ap (λ (b : Bool). cond b (lesser_count uid xs + 1) 0) (h.0 0 x (omega arith) (omega arith)))
+pub upto_falls : (uid : ℕ) (hs : List Held) → AreRising hs → Falls (is_upto uid) hs
+upto_falls uid [] r = tt
+upto_falls uid (h ∷ hs) r = ((λ e. let more = leb-false h.uid uid e in upto_past uid h.uid hs (omega (arith, more)) r.0), upto_falls uid hs r.1)
 
-pub place_is : (uid : ℕ) (hs : List Held) (i : ℕ) → i ≤ length hs → IsPartitionPoint (λ (h : Held). leb h.uid uid ≡ true) (λ (h : Held). leb h.uid uid ≡ false) hs i → i ≡ place_for uid hs
-place_is uid [] zero le h = refl
-place_is uid [] (suc i) le h = absurd (omega arith)
-place_is uid (x ∷ xs) zero le h =
-    let more = leb-false x.uid uid (h.1 0 x (omega arith) (omega arith)) in
-    sym (ap (λ (b : Bool). cond b 0 (place_for uid xs + 1)) (lt-ltb uid x.uid more))
-place_is uid (x ∷ xs) (suc i) le h =
-    let less = leb-true x.uid uid (h.0 0 x (omega arith) (omega arith)) in
-    ap suc (place_is uid xs i (omega arith) ((λ k d l u. h.0 (suc k) d (omega arith) (omega arith)), (λ k d l u. h.1 (suc k) d (omega arith) (omega arith))))
-    ∙ suc_is (place_for uid xs)
-    ∙ sym (ap (λ (b : Bool). cond b 0 (place_for uid xs + 1)) (le-ltb uid x.uid less))
+-- a task stands behind those with lesser uids
+pub lesser_at : (hs : List Held) (i : ℕ) (d : Held) → AreRising hs → i < length hs → lesser_count (get_or hs i d).uid hs ≡ i
+lesser_at [] i d r lt = absurd (omega arith)
+lesser_at (h ∷ hs) zero d r lt = ap (λ (b : Bool). cond b (1 + lesser_count h.uid hs) 0) (le-ltb h.uid h.uid (omega arith))
+lesser_at (h ∷ hs) (suc i) d r lt =
+    let up = past_at h.uid hs i d r.0 (omega arith) in
+    let rest = lesser_at hs i d r.1 (omega arith) in
+    ap (λ (b : Bool). cond b (1 + lesser_count (get_or hs i d).uid hs) 0) (lt-ltb h.uid (get_or hs i d).uid up) ∙ omega (arith, rest)
 
 -- ---- what is found
 
@@ -62,7 +44,7 @@ and_false true = refl
 and_false false = refl
 
 other_is : (until uid : ℕ) (h : Held) → (h.uid ≡ uid → ⊥) → held_is until uid h ≡ false
-other_is until uid h other = ap (λ (b : Bool). until_is until h.until && b) (ne_eqb h.uid uid other) ∙ and_false (until_is until h.until)
+other_is until uid h other = ap (λ (b : Bool). not h.free && eqb h.until until && b) (ne_eqb h.uid uid other) ∙ and_false (not h.free && eqb h.until until)
 
 first_on : (until uid : ℕ) (h : Held) (hs : List Held) → held_is until uid h ≡ false → first_held until uid (h ∷ hs) ≡ first_held until uid hs
 first_on until uid h hs e = ap (λ (b : Bool). cond b (Some h) (first_held until uid hs)) e
@@ -76,7 +58,7 @@ first_at : (until uid : ℕ) (hs : List Held) (i : ℕ) (h : Held) → AreRising
 first_at until uid [] i h r is lt here = absurd (omega arith)
 first_at until uid (x ∷ xs) i h r is lt here = go (ltb x.uid uid) refl is (λ j. first_at until uid xs j h r.1)
   where
-    go : (b : Bool) → ltb x.uid uid ≡ b → i ≡ cond b (lesser_count uid xs + 1) 0
+    go : (b : Bool) → ltb x.uid uid ≡ b → i ≡ cond b (1 + lesser_count uid xs) 0
         → ((j : ℕ) → j ≡ lesser_count uid xs → j < length xs → h ≡ get_or xs j h → first_held until uid xs ≡ cond (held_is until uid h) (Some h) None)
         → first_held until uid (x ∷ xs) ≡ cond (held_is until uid h) (Some h) None
     go true e is ih =
@@ -100,7 +82,7 @@ pub first_none : (until uid : ℕ) (hs : List Held) → length hs ≤ lesser_cou
 first_none until uid [] le = refl
 first_none until uid (x ∷ xs) le = go (ltb x.uid uid) refl le (first_none until uid xs)
   where
-    go : (b : Bool) → ltb x.uid uid ≡ b → length (x ∷ xs) ≤ cond b (lesser_count uid xs + 1) 0 → (length xs ≤ lesser_count uid xs → first_held until uid xs ≡ None) → first_held until uid (x ∷ xs) ≡ None
+    go : (b : Bool) → ltb x.uid uid ≡ b → length (x ∷ xs) ≤ cond b (1 + lesser_count uid xs) 0 → (length xs ≤ lesser_count uid xs → first_held until uid xs ≡ None) → first_held until uid (x ∷ xs) ≡ None
     go true e le ih = let less = ltb-true x.uid uid e in first_on until uid x xs (other_is until uid x (λ q. omega (arith, less, q))) ∙ ih (omega arith)
     go false e le ih = absurd (omega arith)
 
@@ -110,16 +92,8 @@ first_none until uid (x ∷ xs) le = go (ltb x.uid uid) refl le (first_none unti
 abbrev pub KeepsOthers : ℕ → (Held → Held) → Type 0
 KeepsOthers uid f = (h : Held) → (h.uid ≡ uid → ⊥) → f h ≡ h
 
-pub leases_other : (uid until : ℕ) → KeepsOthers uid (leased_if uid until)
-leases_other uid until h other = ap (λ (b : Bool). let x : Held = record { uid = h.uid; until = cond b (Some until) h.until; task = h.task } in x) (ne_eqb h.uid uid other)
-
-retimes_none : (until uid new its : ℕ) (o : Option ℕ) → eqb its uid ≡ false → retimed_until until uid new its o ≡ o
-retimes_none until uid new its None e = refl
-retimes_none until uid new its (Some leased) e =
-    ap (λ (b : Bool). cond (eqb leased until && b) (Some new) (Some leased)) e ∙ ap (λ (b : Bool). cond b (Some new) (Some leased)) (and_false (eqb leased until))
-
 pub retimes_other : (until uid new : ℕ) → KeepsOthers uid (retimed_held until uid new)
-retimes_other until uid new h other = ap (λ (o : Option ℕ). let x : Held = record { uid = h.uid; until = o; task = h.task } in x) (retimes_none until uid new h.uid h.until (ne_eqb h.uid uid other))
+retimes_other until uid new h other = ap (λ (b : Bool). let x : Held = record { uid = h.uid; until = cond b new h.until; free = h.free; task = h.task } in x) (other_is until uid h other)
 
 kept_past : (uid : ℕ) (f : Held → Held) → KeepsOthers uid f → (u : ℕ) (hs : List Held) → ArePast u hs → uid ≤ u → map f hs ≡ hs
 kept_past uid f k u [] p le = refl
@@ -129,7 +103,7 @@ pub changed_there : (uid : ℕ) (f : Held → Held) → KeepsOthers uid f → (h
 changed_there uid f k [] i x d r is lt e = absurd (omega arith)
 changed_there uid f k (h ∷ hs) i x d r is lt e = go (ltb h.uid uid) refl is (λ j. changed_there uid f k hs j x d r.1)
   where
-    go : (b : Bool) → ltb h.uid uid ≡ b → i ≡ cond b (lesser_count uid hs + 1) 0
+    go : (b : Bool) → ltb h.uid uid ≡ b → i ≡ cond b (1 + lesser_count uid hs) 0
         → ((j : ℕ) → j ≡ lesser_count uid hs → j < length hs → x ≡ f (get_or hs j d) → set hs j x ≡ map f hs)
         → set (h ∷ hs) i x ≡ map f (h ∷ hs)
     go true less is ih =
@@ -148,7 +122,7 @@ pub changed_none : (uid : ℕ) (f : Held → Held) → KeepsOthers uid f → (hs
 changed_none uid f k [] le = refl
 changed_none uid f k (h ∷ hs) le = go (ltb h.uid uid) refl le (changed_none uid f k hs)
   where
-    go : (b : Bool) → ltb h.uid uid ≡ b → length (h ∷ hs) ≤ cond b (lesser_count uid hs + 1) 0 → (length hs ≤ lesser_count uid hs → hs ≡ map f hs) → h ∷ hs ≡ map f (h ∷ hs)
+    go : (b : Bool) → ltb h.uid uid ≡ b → length (h ∷ hs) ≤ cond b (1 + lesser_count uid hs) 0 → (length hs ≤ lesser_count uid hs → hs ≡ map f hs) → h ∷ hs ≡ map f (h ∷ hs)
     go true less le ih =
         let low = ltb-true h.uid uid less in
         ap (λ (y : Held). y ∷ hs) (sym (k h (λ q. omega (arith, low, q)))) ∙ ap (λ (ys : List Held). f h ∷ ys) (ih (omega arith))
@@ -179,7 +153,7 @@ pub out_none : (uid : ℕ) (test : Held → Bool) → IsOf uid test → (hs : Li
 out_none uid test of [] le = refl
 out_none uid test of (h ∷ hs) le = go (ltb h.uid uid) refl le (out_none uid test of hs)
   where
-    go : (b : Bool) → ltb h.uid uid ≡ b → length (h ∷ hs) ≤ cond b (lesser_count uid hs + 1) 0 → (length hs ≤ lesser_count uid hs → hs ≡ filter (λ h. not (test h)) hs) → h ∷ hs ≡ filter (λ h. not (test h)) (h ∷ hs)
+    go : (b : Bool) → ltb h.uid uid ≡ b → length (h ∷ hs) ≤ cond b (1 + lesser_count uid hs) 0 → (length hs ≤ lesser_count uid hs → hs ≡ filter (λ h. not (test h)) hs) → h ∷ hs ≡ filter (λ h. not (test h)) (h ∷ hs)
     go true e le ih = let less = ltb-true h.uid uid e in out_on test h hs hs (of h (λ q. omega (arith, less, q))) (ih (omega arith))
     go false e le ih = absurd (omega arith)
 
@@ -187,7 +161,7 @@ pub out_there : (uid : ℕ) (test : Held → Bool) → IsOf uid test → (hs : L
 out_there uid test of [] i d r is lt e = absurd (omega arith)
 out_there uid test of (h ∷ hs) i d r is lt e = go (ltb h.uid uid) refl is (λ j. out_there uid test of hs j d r.1)
   where
-    go : (b : Bool) → ltb h.uid uid ≡ b → i ≡ cond b (lesser_count uid hs + 1) 0 → ((j : ℕ) → j ≡ lesser_count uid hs → j < length hs → test (get_or hs j d) ≡ true → remove hs j ≡ filter (λ h. not (test h)) hs) → remove (h ∷ hs) i ≡ filter (λ h. not (test h)) (h ∷ hs)
+    go : (b : Bool) → ltb h.uid uid ≡ b → i ≡ cond b (1 + lesser_count uid hs) 0 → ((j : ℕ) → j ≡ lesser_count uid hs → j < length hs → test (get_or hs j d) ≡ true → remove hs j ≡ filter (λ h. not (test h)) hs) → remove (h ∷ hs) i ≡ filter (λ h. not (test h)) (h ∷ hs)
     go true low is ih =
         let next : i ≡ suc (lesser_count uid hs) = omega (arith, is) in
         let less = ltb-true h.uid uid low in
@@ -203,7 +177,7 @@ pub out_other : (uid : ℕ) (test : Held → Bool) → IsOf uid test → (hs : L
 out_other uid test of [] i d r is lt e = absurd (omega arith)
 out_other uid test of (h ∷ hs) i d r is lt e = go (ltb h.uid uid) refl is (λ j. out_other uid test of hs j d r.1)
   where
-    go : (b : Bool) → ltb h.uid uid ≡ b → i ≡ cond b (lesser_count uid hs + 1) 0 → ((j : ℕ) → j ≡ lesser_count uid hs → j < length hs → test (get_or hs j d) ≡ false → hs ≡ filter (λ h. not (test h)) hs) → h ∷ hs ≡ filter (λ h. not (test h)) (h ∷ hs)
+    go : (b : Bool) → ltb h.uid uid ≡ b → i ≡ cond b (1 + lesser_count uid hs) 0 → ((j : ℕ) → j ≡ lesser_count uid hs → j < length hs → test (get_or hs j d) ≡ false → hs ≡ filter (λ h. not (test h)) hs) → h ∷ hs ≡ filter (λ h. not (test h)) (h ∷ hs)
     go true low is ih =
         let next : i ≡ suc (lesser_count uid hs) = omega (arith, is) in
         let less = ltb-true h.uid uid low in

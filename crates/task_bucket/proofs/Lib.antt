@@ -3,5 +3,7 @@ pub mod Picks
 pub mod Views
 pub mod Claiming
 pub mod Walks
+pub mod Waking
+pub mod Keeping
 pub mod Totals
 pub mod Weighing

@@ -2,10 +2,8 @@
 use Rattle.std.proofs.Common.{◌≡◌, ℕ, ◌<◌, Bool, true, false, cond, ltb, leb, List, [], ◌∷◌, ◌++◌, Option, Some, None, refl, sym, ap, subst, ◌∙◌, arith, inl, inr}
 use Rattle.std.proofs.lemmas.Bool.{lt-ltb, le-ltb, le-leb, leb-true, cases_lt}
 use Rattle.fb_bytes.specs.Options.{IsIn, better_of, best_of}
-use Rattle.task_bucket.specs.declared.held.Held.{Held}
 use Rattle.task_bucket.specs.Lists.{Slot}
 use Rattle.task_bucket.specs.Claims.{has_greater_uid, has_lesser_uid, is_at_or_below, or_least, picked}
-use Rattle.task_bucket.specs.inner.Held.{slot_in, candidate, candidates}
 
 -- all of these have lesser uids
 abbrev pub AreBelow : ℕ → List Slot → Type 0
@@ -99,13 +97,3 @@ picked_in pick xs s e = go (greatest pick xs) (best_in (is_at_or_below pick) has
     go : (o : Option Slot) → ((z : Slot) → o ≡ Some z → IsIn z xs) → or_least o xs ≡ Some s → IsIn s xs
     go None h e = best_in (λ s. true) has_lesser_uid xs s e
     go (Some z) h e = h s e
-
--- ---- the loop
-
-pub candidates-append : (now : ℕ) (idle : Bool) (xs ys : List Held) → candidates now idle (xs ++ ys) ≡ candidates now idle xs ++ candidates now idle ys
-candidates-append now idle [] ys = refl
-candidates-append now idle (x ∷ xs) ys = go (candidate now idle x) (candidates-append now idle xs ys)
-  where
-    go : (b : Bool) → candidates now idle (xs ++ ys) ≡ candidates now idle xs ++ candidates now idle ys → cond b (slot_in x ∷ candidates now idle (xs ++ ys)) (candidates now idle (xs ++ ys)) ≡ cond b (slot_in x ∷ candidates now idle xs) (candidates now idle xs) ++ candidates now idle ys
-    go true ih = ap (λ (ss : List Slot). slot_in x ∷ ss) ih
-    go false ih = ih

@@ -1,17 +1,22 @@
 //! The tasks of a bucket in one list, each available or leased.
 
-ghost use Rattle.std.specs.Prelude.{◌≡◌, ◌<◌, ◌≤◌, ◌==◌, if◌then◌else◌, true, not, length, map, option_map, option_copied, IfSome};
-ghost use Rattle.task_bucket.specs.inner.Held.{held_is, candidate, candidates, AreRising, is_free, is_idle, place_for, place_at, lesser_count, or_due, slot_in, woken, leased_if, retimed_held, first_held, leases_in, lists_in, least_of};
+ghost use Rattle.std.specs.Prelude.{◌≡◌, ◌<◌, ◌≤◌, ◌+◌, ◌==◌, if◌then◌else◌, length, map, nat_le, option_copied, IfOk, OnOk, OnErr, IsSome, Some};
+ghost use Rattle.std.specs.Option.{option_map};
+ghost use Rattle.task_bucket.specs.inner.Held.{held_is, until_of, AreRising, free_count, place_for, place_at, lesser_count, slot_at, picked_place, later_place, woken, asleep, leased, retimed_held, first_held, lease_in, leases_in, lists_in, least_of};
 ghost use Rattle.task_bucket.specs.Lists.{is_leased, least_until};
-ghost use Rattle.task_bucket.specs.Claims.{picked};
+ghost use Rattle.task_bucket.specs.Claims.{lease_of, with_chosen};
 
+use crate::Lease;
+use std::alloc::AllocError;
 use task_kinds::Task;
 
-/// A task, and the version until which it is leased; none where it is available.
+/// A task that is available, or leased until a version. One that was woken keeps the version that
+/// it was leased until.
 #[derive(Debug, Drop)]
 pub struct Held {
     pub uid: u64,
-    pub until: Option<u64>,
+    pub until: u64,
+    pub free: bool,
     pub task: Task,
 }
 
@@ -20,63 +25,64 @@ impl Held {
     pub fn is_lease(&self, until: u64, uid: u64) -> bool
         ensures { result ≡ held_is until uid self.now }
     {
-        match self.until {
-            Some(leased) => leased == until && self.uid == uid,
-            None => false,
-        }
-    }
-
-    /// Whether it may be claimed where nothing is available: it is due, or available.
-    fn is_candidate(&self, now: u64) -> bool
-        ensures { result ≡ candidate now true self.now }
-    {
-        match self.until {
-            None => true,
-            Some(until) => until <= now,
-        }
-    }
-
-    /// Whether it is available.
-    pub fn is_free(&self) -> bool
-        ensures { result ≡ is_free self.now.until }
-    {
-        match self.until {
-            None => true,
-            Some(_) => false,
-        }
-    }
-
-    // Makes it available, where it is due.
-    fn wake(&mut self, now: u64)
-        ensures { self.new ≡ woken now self.old }
-    {
-        if let Some(until) = self.until
-            && until <= now
-        {
-            self.until = None;
-        }
-    }
-
-    fn lease_if(&mut self, uid: u64, until: u64)
-        ensures { self.new ≡ leased_if uid until self.old }
-    {
-        if self.uid == uid {
-            self.until = Some(until);
-        }
-    }
-
-    fn retime_if(&mut self, until: u64, uid: u64, new: u64)
-        ensures { self.new ≡ retimed_held until uid new self.old }
-    {
-        if self.is_lease(until, uid) {
-            self.until = Some(new);
-        }
+        !self.free && self.until == until && self.uid == uid
     }
 
     pub fn is_of(&self, job: u64) -> bool
         ensures { result ≡ (self.now.task.job == job) }
     {
         self.task.job() == job
+    }
+
+    /// What it counts among those that are available.
+    pub fn free_count(&self) -> usize
+        ensures { result ≡ (if self.now.free then 1 else 0) }
+    {
+        usize::from(self.free)
+    }
+
+    fn until(&self) -> Option<u64>
+        ensures { result ≡ until_of self.now }
+    {
+        if self.free { None } else { Some(self.until) }
+    }
+
+    // Makes it available exactly where it is due, and tells whether it is.
+    fn wake(&mut self, now: u64) -> bool
+        ensures woken { self.new ≡ woken now self.old }
+        ensures due { result ≡ nat_le self.old.until now }
+    {
+        self.free = self.until <= now;
+        self.free
+    }
+
+    fn lease_again(&mut self)
+        ensures { self.new ≡ asleep self.old }
+    {
+        self.free = false;
+    }
+
+    fn lease_out(&mut self, until: u64) -> Result<Lease, AllocError>
+        ensures lease { IfOk result (λ lease. lease ≡ lease_in until self.old) }
+        ensures ok { OnOk result (self.new ≡ leased until self.old) }
+        ensures err { OnErr result (self.new ≡ self.old) }
+    {
+        let task = self.task.copy()?;
+        self.until = until;
+        self.free = false;
+        Ok(Lease {
+            until,
+            uid: self.uid,
+            task,
+        })
+    }
+
+    fn retime_if(&mut self, until: u64, uid: u64, new: u64)
+        ensures { self.new ≡ retimed_held until uid new self.old }
+    {
+        if self.is_lease(until, uid) {
+            self.until = new;
+        }
     }
 }
 
@@ -97,17 +103,6 @@ pub fn place_of(held: &[Held], uid: u64) -> usize
     held.partition_point(|one| one.uid < uid)
 }
 
-// The first that is due, or this one.
-fn or_due<'a>(due: Option<&'a Held>, one: &'a Held, now: u64) -> Option<&'a Held>
-    ensures { option_copied result ≡ or_due now (option_copied due.entry) one.now }
-{
-    match due {
-        Some(_) => due,
-        None if one.is_candidate(now) => Some(one),
-        None => None,
-    }
-}
-
 // Down from a place to the first, and then up from it to the last.
 fn place_at(place: usize, step: usize, count: usize) -> usize
     requires place { place ≤ count }
@@ -118,55 +113,81 @@ fn place_at(place: usize, step: usize, count: usize) -> usize
     if step < place { place - 1 - step } else { step }
 }
 
-/// The one to claim, and where nothing is available, of those that are due: that with the greatest
-/// uid at or below the pick, else the first. It looks at the uids nearest to the pick first, so it
-/// mostly ends soon where something is available.
-pub fn picked(held: &[Held], now: u64, pick: u64) -> Option<&Held>
+/// The place of the available task that a claim picks. It looks at the uids nearest to the pick
+/// first.
+pub fn picked(held: &[Held], pick: u64) -> Option<usize>
     requires { AreRising held.now }
-    ensures slot { option_map slot_in (option_copied result)
-        ≡ picked pick (candidates now (is_idle held.now) held.now) }
-    ensures idle { IfSome (option_copied result)
-        (λ one. is_free one.until ≡ not (is_idle held.now)) }
+    ensures { result ≡ picked_place pick held.now }
 {
     let place = place_for(held, pick);
-    let mut due: Option<&Held> = None;
     let count = held.len();
     for step in 0..count {
-        let one = &held[place_at(place, step, count)];
-        if one.is_free() {
-            return Some(one);
+        let at = place_at(place, step, count);
+        if held[at].free {
+            return Some(at);
         }
-        due = or_due(due, one, now);
     }
-    due
+    None
 }
 
-/// Makes those that are due available, where nothing is.
-pub fn wake_if(held: &mut [Held], now: u64, idle: bool)
-    ensures { held.new ≡ (if idle then map (woken now) held.old else held.old) }
+/// What a pass has woken: how many, and the place of the one to claim.
+#[derive(Clone, Copy, Debug)]
+pub struct Woken {
+    pub count: usize,
+    pub place: Option<usize>,
+}
+
+// The later place where its uid is low, else the one so far.
+fn later_place(low: bool, later: usize, place: Option<usize>) -> usize
+    ensures { result ≡ later_place low later place }
 {
-    if idle {
-        wake(held, now);
+    match place {
+        Some(place) if !low => place,
+        _ => later,
     }
 }
 
-fn wake(held: &mut [Held], now: u64)
-    ensures { held.new ≡ map (woken now) held.old }
+/// Makes exactly those available that are due, in one pass.
+pub fn wake(held: &mut [Held], now: u64, pick: u64) -> Woken
+    requires { AreRising held.old }
+    ensures woken { held.new ≡ map (woken now) held.old }
+    ensures count { result.count ≡ free_count held.new }
+    ensures place { result.place ≡ picked_place pick held.new }
+{
+    let mut count = 0;
+    let mut place = None;
+    for (at, one) in held.iter_mut().enumerate() {
+        if !one.wake(now) {
+            continue;
+        }
+        count += 1;
+        place = Some(later_place(one.uid <= pick, at, place));
+    }
+    Woken { count, place }
+}
+
+/// Leases all until the versions that they had.
+pub fn lease_again(held: &mut [Held])
+    ensures { held.new ≡ map asleep held.old }
 {
     for one in held.iter_mut() {
-        one.wake(now);
+        one.lease_again();
     }
 }
 
-/// Leases the one with this uid.
-pub fn lease_out(held: &mut [Held], uid: u64, until: u64)
-    requires { AreRising held.old }
-    ensures { held.new ≡ map (leased_if uid until) held.old }
+/// Leases the available task at a place.
+pub fn lease_out(held: &mut [Held], place: usize, until: u64) -> Result<Lease, AllocError>
+    requires rising { AreRising held.old }
+    requires free { IsSome (slot_at held.old place) }
+    ensures rising { AreRising held.new }
+    ensures lease { IfOk result
+        (λ lease. option_map (lease_of until) (slot_at held.old place) ≡ Some lease) }
+    ensures ok { OnOk result (lists_in held.new
+        ≡ with_chosen until (slot_at held.old place) (lists_in held.old) (lists_in held.old)) }
+    ensures count { OnOk result (free_count held.new + 1 ≡ free_count held.old) }
+    ensures err { OnErr result (held.new ≡ held.old) }
 {
-    let place = place_of(held, uid);
-    if place < held.len() {
-        held[place].lease_if(uid, until);
-    }
+    held[place].lease_out(until)
 }
 
 /// Gives the lease of this uid until this version another until.
@@ -211,7 +232,7 @@ pub fn earliest(held: &[Held]) -> Option<u64>
 {
     let mut least = None;
     for one in held {
-        least = lesser(least, one.until);
+        least = lesser(least, one.until());
     }
     least
 }

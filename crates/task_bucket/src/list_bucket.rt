@@ -7,10 +7,12 @@ use std::alloc::{AllocError, Global};
 use std::marker::Model;
 use task_kinds::Task;
 
-/// A bucket in memory: one list of tasks in the order of their uids, each available or leased.
+/// A bucket in memory: one list of tasks in the order of their uids, each available or leased, and
+/// how many are available.
 #[derive(Debug, Drop)]
 pub struct ListBucket {
     held: Vec<Held>,
+    free: usize,
 }
 
 impl Model for ListBucket {
@@ -18,11 +20,11 @@ impl Model for ListBucket {
 
     ghost Value = { Lists };
 
-    ghost use Rattle.task_bucket.specs.inner.Held.{lists_in, AreRising};
+    ghost use Rattle.task_bucket.specs.inner.Held.{lists_in, AreCounted};
 
     ghost view = { λ b. lists_in b.held.items };
 
-    ghost invariant = { λ b. AreRising b.held.items };
+    ghost invariant = { λ b. AreCounted b.free b.held.items };
 }
 
 impl ListBucket {
@@ -34,6 +36,7 @@ impl ListBucket {
     {
         ListBucket {
             held: Vec::new(alloc),
+            free: 0,
         }
     }
 }
@@ -44,9 +47,11 @@ impl Bucket for ListBucket {
     fn add(&mut self, uid: u64, task: Task) -> Result<(), AllocError> {
         changes::put(
             &mut self.held,
+            &mut self.free,
             Held {
                 uid,
-                until: None,
+                until: 0,
+                free: true,
                 task,
             },
         )
@@ -55,16 +60,18 @@ impl Bucket for ListBucket {
     fn add_asleep(&mut self, until: u64, uid: u64, task: Task) -> Result<(), AllocError> {
         changes::put(
             &mut self.held,
+            &mut self.free,
             Held {
                 uid,
-                until: Some(until),
+                until,
+                free: false,
                 task,
             },
         )
     }
 
     fn claim(&mut self, now: u64, lease: u64, pick: u64) -> Result<Option<Lease>, AllocError> {
-        claim_from(&mut self.held, now, lease, pick)
+        claim_from(&mut self.held, &mut self.free, now, lease, pick)
     }
 
     fn extend(&mut self, lease: &Lease, now: u64, length: u64) -> Result<Lease, LeaseFault> {
@@ -84,10 +91,10 @@ impl Bucket for ListBucket {
     }
 
     fn drop_job(&mut self, job: u64) {
-        changes::drop_job(&mut self.held, job);
+        changes::drop_job(&mut self.held, &mut self.free, job);
     }
 
     fn remove(&mut self, uid: u64) {
-        changes::remove(&mut self.held, uid);
+        changes::remove(&mut self.held, &mut self.free, uid);
     }
 }

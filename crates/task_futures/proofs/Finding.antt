@@ -1,10 +1,9 @@
 -- The place of a future, where the numbers rise, and what a change at that place is.
 use Rattle.std.proofs.Common.{◌≡◌, ℕ, zero, suc, ◌+◌, ◌<◌, ◌≤◌, Bool, true, false, not, cond, ◌&&◌, ◌||◌, eqb, ltb, List, [], ◌∷◌, ◌++◌, length, get_or, set, map, take, drop, refl, sym, ap, subst, ◌∙◌, arith}
-use Rattle.std.specs.List.{filter}
-use Rattle.std.specs.List.Sorted.{IsPartitionedBy, IsPartitionPoint}
+use Rattle.std.specs.List.{filter, AllByRecursion}
 use Rattle.std.proofs.lemmas.Bool.{eqb-true, eq-eqb, ne_eqb, lt-ltb, le-ltb, ltb-true, ltb-false}
-use Rattle.std.proofs.lemmas.List.Sums.{prefix_len_is}
-use Rattle.task_futures.specs.Futures.{Part, SeenFuture, fresh_with, greatest_number, is_made, blocks_of, is_open, is_some_block, is_part}
+use Rattle.fb_bytes.proofs.Halving.{Falls}
+use Rattle.task_futures.specs.Futures.{Part, SeenFuture, greatest_number, is_made, blocks_of, is_open, is_some_block, is_part}
 use Rattle.task_futures.specs.inner.Futures.{place_of, cleared_by, first_settled, head_settled}
 use Rattle.task_futures.specs.Laws.{ArePast, AreRising, HasPassedOn, HavePassedOn}
 use Rattle.task_futures.specs.inner.Changes.{is_lesser, lesser_count, cleared}
@@ -16,19 +15,14 @@ past_at u [] j d p lt = absurd (omega arith)
 past_at u (f ∷ fs) zero d p lt = p.0
 past_at u (f ∷ fs) (suc j) d p lt = past_at u fs j d p.1 (omega arith)
 
-pub parted : (number : ℕ) (fs : List SeenFuture) → AreRising fs → IsPartitionedBy (is_lesser number) fs
-parted number [] r i j d le lt e = absurd (omega arith)
-parted number (f ∷ fs) r zero zero d le lt e = e
-parted number (f ∷ fs) r zero (suc j) d le lt e =
-    let up = past_at f.number fs j d r.0 (omega arith) in
-    let low = ltb-true (get_or fs j d).number number e in
-    lt-ltb f.number number (omega (arith, up, low))
-parted number (f ∷ fs) r (suc i) zero d le lt e = absurd (omega arith)
-parted number (f ∷ fs) r (suc i) (suc j) d le lt e = parted number fs r.1 i j d (omega arith) (omega arith) e
+less_past : (number u : ℕ) (fs : List SeenFuture) → number ≤ u → ArePast u fs → AllByRecursion (λ (f : SeenFuture). is_lesser number f ≡ false) fs
+less_past number u [] le p = tt
+less_past number u (f ∷ fs) le p = (le-ltb f.number number (omega (arith, p.0, le)), less_past number u fs le p.1)
 
-pub halved : (number : ℕ) (fs : List SeenFuture) (i : ℕ) → i ≤ length fs → IsPartitionPoint (λ f. is_lesser number f ≡ true) (λ f. is_lesser number f ≡ false) fs i → i ≡ lesser_count number fs
-halved number fs i le h =
-    sym (prefix_len_is (is_lesser number) fs i (fresh_with 0 []) le (λ k l. h.0 k (fresh_with 0 []) (omega arith) (omega arith)) (λ l. h.1 i (fresh_with 0 []) (omega arith) (omega arith)))
+-- once one hasn't a lesser number, none behind it has
+pub less_falls : (number : ℕ) (fs : List SeenFuture) → AreRising fs → Falls (is_lesser number) fs
+less_falls number [] r = tt
+less_falls number (f ∷ fs) r = ((λ e. less_past number f.number fs (ltb-false f.number number e) r.0), less_falls number fs r.1)
 
 -- ---- what is found
 

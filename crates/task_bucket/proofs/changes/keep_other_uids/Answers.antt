@@ -1,4 +1,4 @@
-use Rattle.std.proofs.Common.{◌≡◌, ◌<◌, Bool, eqb, length, sym, subst, ap, ◌∙◌, arith}
+use Rattle.std.proofs.Common.{◌<◌, Bool, eqb, length, sym, subst, ap, ◌∙◌, arith}
 use Rattle.std.proofs.lemmas.Bool.{eq-eqb, ne_eqb}
 use Rattle.task_bucket.specs.declared.held.Held.{Held}
 use Rattle.task_bucket.specs.inner.Held.{AreRising, lesser_count}
@@ -8,21 +8,21 @@ use Rattle.task_bucket.proofs.changes.keep_other_uids.Goals as goal
 pub place_of-place-requires : goal.place_of-place-requires
 place_of-place-requires c = subst AreRising (sym c.deref.ensures.value) c.requires
 
-pub returns-then-place-len : goal.returns-then-place-len
-returns-then-place-len c =
+pub returns-then-place-len-clause-items : goal.returns-then-place-len-clause-items
+returns-then-place-len-clause-items c =
     let test : Held → Bool = λ h. eqb h.uid c.args.uid in
     let place = c.place_of-place.ensures ∙ ap (lesser_count c.args.uid) c.deref.ensures.value in
     out_none c.args.uid test (uid_of_uid c.args.uid) c.args.held.now.items (omega (arith, place, c.if-place-len.true, c.len.ensures, c.args.held.now.ok.0))
 
-pub returns-then-index-uid : goal.returns-then-index-uid
-returns-then-index-uid c =
+pub returns-then-index-uid-clause-items : goal.returns-then-index-uid-clause-items
+returns-then-index-uid-clause-items c =
     let test : Held → Bool = λ h. eqb h.uid c.args.uid in
     let place = c.place_of-place.ensures ∙ ap (lesser_count c.args.uid) c.deref.ensures.value in
     let within : c.place_of-place.result < length c.args.held.now.items = omega (arith, c.if-place-len.false, c.len.ensures, c.args.held.now.ok.0) in
-    c.take_out.ensures ∙ out_there c.args.uid test (uid_of_uid c.args.uid) c.args.held.now.items c.place_of-place.result c.index.result.now c.requires place within (ap test (sym c.index.ensures) ∙ eq-eqb c.index.result.now.uid c.args.uid c.if-index-uid.true)
+    c.take_out.ensures.items ∙ out_there c.args.uid test (uid_of_uid c.args.uid) c.args.held.now.items c.place_of-place.result c.index.result.now c.requires place within (ap test (sym c.index.ensures) ∙ eq-eqb c.index.result.now.uid c.args.uid c.if-index-uid.true)
 
-pub returns-else-index-uid : goal.returns-else-index-uid
-returns-else-index-uid c =
+pub returns-clause-items : goal.returns-clause-items
+returns-clause-items c =
     let test : Held → Bool = λ h. eqb h.uid c.args.uid in
     let place = c.place_of-place.ensures ∙ ap (lesser_count c.args.uid) c.deref.ensures.value in
     let within : c.place_of-place.result < length c.args.held.now.items = omega (arith, c.if-place-len.false, c.len.ensures, c.args.held.now.ok.0) in

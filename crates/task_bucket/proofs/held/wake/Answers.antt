@@ -1,10 +1,23 @@
-use Rattle.std.proofs.Common.{◌∙◌}
-use Rattle.task_bucket.specs.inner.Held.{woken}
-use Rattle.fb_bytes.proofs.Mapped.{mapped-step, mapped-all}
+use Rattle.std.proofs.Common.{ℕ, ◌+◌, Some, set, ap, subst, sym, ◌∙◌}
+use Rattle.task_bucket.proofs.Waking.{IsWaking, wakes_one, waking_ends}
 use Rattle.task_bucket.proofs.held.wake.Goals as goal
 
-pub loop-one-preserved : goal.loop-one-preserved
-loop-one-preserved c = mapped-step (woken c.args.now) c.loop-one.one-index c.args.held.now c.loop-one.held c.wake.new.self _ c.loop-one-test.true c.loop-one.invariant c.wake.ensures
+pub loop-at-preserved-then-not-wake : goal.loop-at-preserved-then-not-wake
+loop-at-preserved-then-not-wake c =
+    let step = wakes_one c.args.now c.args.pick c.args.held.now c.loop-at.held c.loop-at.at c.loop-at.count c.loop-at.place c.wake.new.self _ c.loop-at-test.true c.wake.ensures.woken c.loop-at.invariant in
+    step.not_due (ap (λ h. h.free) c.wake.ensures.woken ∙ sym c.if-not-wake.ensures.due)
 
-pub returns : goal.returns
-returns c = c.loop-one.invariant ∙ mapped-all (woken c.args.now) c.loop-one.one-index c.args.held.now c.loop-one-test.false
+pub loop-at-preserved : goal.loop-at-preserved
+loop-at-preserved c =
+    let step = wakes_one c.args.now c.args.pick c.args.held.now c.loop-at.held c.loop-at.at c.loop-at.count c.loop-at.place c.wake.new.self _ c.loop-at-test.true c.wake.ensures.woken c.loop-at.invariant in
+    subst (λ (n : ℕ). IsWaking c.args.now c.args.pick c.args.held.now (set c.loop-at.held c.loop-at.at c.wake.new.self) (c.loop-at.at + 1) (c.loop-at.count + 1) (Some n)) (sym c.later_place.ensures)
+    (step.due (ap (λ h. h.free) c.wake.ensures.woken ∙ sym c.if-not-wake.ensures.due))
+
+pub returns-clause-woken : goal.returns-clause-woken
+returns-clause-woken c = (waking_ends c.args.now c.args.pick c.args.held.now c.loop-at.held c.loop-at.at c.loop-at.count c.loop-at.place c.requires c.loop-at-test.false c.loop-at.invariant).woken_all
+
+pub returns-clause-count : goal.returns-clause-count
+returns-clause-count c = (waking_ends c.args.now c.args.pick c.args.held.now c.loop-at.held c.loop-at.at c.loop-at.count c.loop-at.place c.requires c.loop-at-test.false c.loop-at.invariant).counted
+
+pub returns-clause-place : goal.returns-clause-place
+returns-clause-place c = (waking_ends c.args.now c.args.pick c.args.held.now c.loop-at.held c.loop-at.at c.loop-at.count c.loop-at.place c.requires c.loop-at-test.false c.loop-at.invariant).placed
