@@ -6,6 +6,7 @@ use Rattle.cluster_core.specs.declared.Answer.{Answer}
 use Rattle.cluster_core.specs.declared.StepFault.{StepFault}
 use Rattle.cluster_core.specs.declared.StepFault.TheVariants as steps
 use Rattle.report_text.specs.declared.EventLine.{EventLine}
+use Rattle.report_text.specs.Descriptions.{number_or_none}
 use Rattle.report_text.specs.Faults.{file_fault_words}
 use Rattle.report_text.specs.Lines.{behind}
 use Rattle.fb_cli.specs.declared.fault.Fault.{Fault}
@@ -26,11 +27,6 @@ status_of (Some NoMemory) = 12
 status_of (Some NoContainer) = 13
 status_of (Some (Missing name)) = 14
 status_of (Some (NotBuilt line)) = 15
-
--- a number that may be absent
-abbrev pub number_or_none : Option ℕ → Bytes
-number_or_none None = codes "none"
-number_or_none (Some n) = decimal n
 
 -- the line of a refusal; two have none
 abbrev pub refusal_line : Option Fault → Bytes

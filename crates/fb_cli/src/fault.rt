@@ -1,12 +1,12 @@
 ghost use Rattle.std.specs.Prelude.{◌≡◌, Some, ◌++◌, decimal, IfOk};
-ghost use Rattle.fb_cli.specs.Faults.{status_of, number_or_none, refusal_line, fault_of, last_fault};
+ghost use Rattle.fb_cli.specs.Faults.{status_of, refusal_line, fault_of, last_fault};
 ghost use Rattle.fb_cli.specs.Restores.{refusal_of};
 
 use cluster_core::{Answer, StepFault};
 use container_view::{FileFault, ViewFault};
 use fb_bytes::{Blob, Text};
 use itoa::Buffer;
-use report_text::{EventLine, put_file_fault};
+use report_text::{EventLine, put_file_fault, put_number_or_none};
 use std::alloc::{AllocError, Global};
 
 /// Why a command was refused.
@@ -122,24 +122,14 @@ fn push_number(out: &mut Blob, front: &[u8], number: u64, back: &[u8]) -> Result
     out.extend_from_slice(back)
 }
 
-// A number that may be absent.
-fn push_or_none(out: &mut Blob, number: Option<u64>) -> Result<(), AllocError>
-    ensures { IfOk result (λ _. out.new ≡ out.old ++ number_or_none number) }
-{
-    match number {
-        Some(number) => push_number(out, b"", number, b""),
-        None => out.extend_from_slice(b"none"),
-    }
-}
-
 fn push_not_restorable(out: &mut Blob, min: Option<u64>, max: Option<u64>) -> Result<(), AllocError>
     ensures { IfOk result
         (λ _. out.new ≡ out.old ++ refusal_line (Some (Fault.NotRestorable min max))) }
 {
     out.extend_from_slice(b"refused not-restorable ")?;
-    push_or_none(out, min)?;
+    put_number_or_none(out, min)?;
     out.extend_from_slice(b" ")?;
-    push_or_none(out, max)?;
+    put_number_or_none(out, max)?;
     out.extend_from_slice(b"\n")?;
     Ok(())
 }

@@ -6,7 +6,7 @@ ghost use Rattle.report_text.specs.Descriptions as spec;
 
 use crate::Described;
 use crate::tail::Tail;
-use crate::words::put;
+use crate::words::{put, put_number};
 use container_view::{Description, Snapshot};
 use fb_bytes::{Blob, Text};
 use std::alloc::AllocError;
@@ -93,7 +93,17 @@ fn put_line(out: &mut Blob, word: &[u8], number: Option<u64>) -> Result<(), Allo
     put(out, tail.as_slice())
 }
 
-// A number that may be absent, and the line feed.
+/// The word of a number that may be absent.
+pub fn put_number_or_none(out: &mut Blob, number: Option<u64>) -> Result<(), AllocError>
+    ensures { OnOk result (out.new ≡ out.old ++ spec.number_or_none number) }
+{
+    match number {
+        Some(number) => put_number(out, number),
+        None => put(out, b"none"),
+    }
+}
+
+// The same word, and the line feed.
 fn end_of_number(number: Option<u64>) -> Tail
     ensures text { result ≡ spec.number_or_none number ++ 10 ∷ [] }
     ensures len { length result ≤ 41 }

@@ -16,6 +16,7 @@ mod tail;
 mod tests;
 mod words;
 
+pub use described::put_number_or_none;
 pub use faults::put_file_fault;
 pub use printing::report_bytes;
 pub use report::{Described, EventLine, Report, Restored, RunReport};
