@@ -3,7 +3,7 @@
 
 ghost use Rattle.std.specs.Prelude.{◌<◌, Some, None, IfOk};
 ghost use Rattle.workload_text.specs.Commands.{IsCommand};
-ghost use Rattle.cluster_core.specs.inner.Plans.{IsPlan, IsPlanOf, IsSafe};
+ghost use Rattle.cluster_core.specs.inner.Plans.{command_of, IsPlan, IsPlanOf, IsSafe};
 
 mod cut;
 mod dump;
@@ -14,9 +14,19 @@ mod status;
 
 use crate::World;
 use crate::plan::{Plan, Running};
+use fb_bytes::{KeyRange, Text};
 use fb_outside::Vault;
 use std::alloc::AllocError;
 use workload_text::Command;
+
+/// What a command asks of a job that runs.
+#[derive(Clone, Copy, Debug)]
+enum JobCommand<'a> {
+    Dump { piece: &'a KeyRange },
+    Cut,
+    Seal,
+    Abort,
+}
 
 impl<V: Vault> World<V> {
     /// What the operator's next command comes to.
@@ -43,23 +53,30 @@ impl<V: Vault> World<V> {
                 container,
                 ranges,
             } => self.plan_open(tag, *side, container, ranges),
-            Command::Dump { tag, piece } => match self.running(tag)? {
-                Running::At(place) => self.plan_dump(place, piece),
-                Running::Refused(refusal) => Ok(Plan::Refuse(refusal)),
-            },
-            Command::Cut { tag } => match self.running(tag)? {
-                Running::At(place) => self.plan_cut(place),
-                Running::Refused(refusal) => Ok(Plan::Refuse(refusal)),
-            },
-            Command::Seal { tag } => match self.running(tag)? {
-                Running::At(place) => self.plan_seal(place),
-                Running::Refused(refusal) => Ok(Plan::Refuse(refusal)),
-            },
-            Command::Abort { tag } => match self.running(tag)? {
-                Running::At(place) => Ok(Plan::Abort { place }),
-                Running::Refused(refusal) => Ok(Plan::Refuse(refusal)),
-            },
+            Command::Dump { tag, piece } => self.plan_on(tag, JobCommand::Dump { piece }),
+            Command::Cut { tag } => self.plan_on(tag, JobCommand::Cut),
+            Command::Seal { tag } => self.plan_on(tag, JobCommand::Seal),
+            Command::Abort { tag } => self.plan_on(tag, JobCommand::Abort),
             Command::Status { tag } => Ok(Plan::Tell(self.state_of(tag))),
+        }
+    }
+
+    // What is asked of the newest job with the tag comes to.
+    fn plan_on(&self, tag: &Text, asked: JobCommand<'_>) -> Result<Plan, AllocError>
+        requires { IsCommand self.now.workload.settings.block (command_of tag.now asked) }
+        ensures plan { IfOk result (IsPlanOf self.now.workload.settings self.now.state
+            (command_of tag.now asked.entry)) }
+        ensures safe { IfOk result (IsSafe self.now.state) }
+    {
+        let place = match self.running(tag)? {
+            Running::At(place) => place,
+            Running::Refused(refusal) => return Ok(Plan::Refuse(refusal)),
+        };
+        match asked {
+            JobCommand::Dump { piece } => self.plan_dump(place, piece),
+            JobCommand::Cut => self.plan_cut(place),
+            JobCommand::Seal => self.plan_seal(place),
+            JobCommand::Abort => Ok(Plan::Abort { place }),
         }
     }
 }

@@ -2,6 +2,7 @@
 use Rattle.std.specs.Prelude.{◌≡◌, ℕ, ◌≤◌, false, Option, Some, None, Ok, slice_get}
 use Rattle.fb_bytes.specs.Bytes.{Bytes}
 use Rattle.workload_text.specs.declared.Command.{Command}
+use Rattle.workload_text.specs.declared.Command.TheVariants as commands
 use Rattle.workload_text.specs.declared.Settings.{Settings}
 use Rattle.workload_text.specs.declared.Workload.{Workload}
 use Rattle.database.specs.Commits.{most_version}
@@ -12,6 +13,8 @@ use Rattle.cluster_core.specs.declared.plan.Plan.TheVariants.{Nothing, Refuse, T
 use Rattle.cluster_core.specs.declared.plan.Plan.TheVariants.{Open}
 use Rattle.cluster_core.specs.declared.plan.Running.{Running}
 use Rattle.cluster_core.specs.declared.plan.Running.TheVariants.{At, Refused}
+use Rattle.cluster_core.specs.declared.planning.JobCommand.{JobCommand}
+use Rattle.cluster_core.specs.declared.planning.JobCommand.TheVariants as asks
 use Rattle.cluster_core.specs.declared.job.Job.{Job}
 use Rattle.task_kinds.specs.States.{has_ended}
 use Rattle.cluster_core.specs.Backups.{FoundBackup}
@@ -49,6 +52,13 @@ planned settings state luck (Put filing) =
 planned settings state luck (Abort place) = aborts state place (slice_get state.jobs place)
 planned settings state luck (Open tag side container ranges) =
     open_listed settings state tag side container ranges luck
+
+-- the command that asks this of the newest job with a tag
+abbrev pub command_of : Bytes → JobCommand → Command
+command_of tag (asks.Dump piece) = commands.Dump tag piece.now
+command_of tag asks.Cut = commands.Cut tag
+command_of tag asks.Seal = commands.Seal tag
+command_of tag asks.Abort = commands.Abort tag
 
 -- the plan is that of a command
 abbrev pub IsPlanOf : Settings → State → Command → Plan → Type 0
