@@ -23,4 +23,5 @@ pub mod Begun
 pub mod Runs
 pub mod Bests
 pub mod Search
+pub mod Parts
 pub mod Descriptions

@@ -13,7 +13,7 @@ use Rattle.fb_bytes.proofs.Order.{same_eq, same_itself}
 use Rattle.container_view.specs.Names.{is_named}
 use Rattle.container_view.specs.inner.Listing.{texts}
 
-named_any : (names : List Bytes) (name : Bytes) → is_named names name ≡ list_any (λ listed. is_same listed name) names
+pub named_any : (names : List Bytes) (name : Bytes) → is_named names name ≡ list_any (λ listed. is_same listed name) names
 named_any [] name = refl
 named_any (x ∷ xs) name = ap (λ b. is_same x name || b) (named_any xs name)
 

@@ -15,6 +15,7 @@ pub mod Stores
 pub mod Lookups
 pub mod Honest
 pub mod Names
+pub mod Containers
 pub mod Sets
 pub mod Description
 pub mod inner

@@ -1,6 +1,7 @@
 //! The files of a container, what versions they advertise, and what these mean.
 #![tactic(auto)]
 
+mod catalog;
 mod chaining;
 mod describing;
 mod laws;
@@ -12,6 +13,7 @@ mod sorting;
 mod versions;
 mod view;
 
+pub use catalog::containers;
 pub use chaining::{Link, chain, chain_past};
 pub use describing::{Description, Snapshot, describe, describe_names};
 pub use laws::{
