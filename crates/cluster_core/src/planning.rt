@@ -22,9 +22,7 @@ use workload_text::Command;
 /// What a command asks of a job that runs.
 #[derive(Clone, Copy, Debug)]
 enum JobCommand<'a> {
-    Dump {
-        piece: &'a KeyRange,
-    },
+    Dump { piece: &'a KeyRange },
     Cut,
     Seal,
     Abort,
