@@ -1,5 +1,6 @@
 use super::*;
-use fb_bytes::{Names, Text};
+use fb_bytes::{Blob, Names, Text};
+use fb_outside::{File, Files, MemVault};
 use std::alloc::{AllocError, Global};
 use std::test::Fail;
 
@@ -44,5 +45,29 @@ fn a_chain_takes_the_log_with_the_greatest_end(rt: HostRuntime) -> Result<(), Fa
     for (from, to, wanted) in CHAINS {
         assert_eq!(rt; links_of(rt.alloc(), &names, *from, *to)?, *wanted);
     }
+    Ok(())
+}
+
+/// In byte order `box-x/..` stands before `box/..`. The last one stands in no folder.
+const STORED: &[&str] = &["a.b/x", "box-x/x", "box/logs/x", "box/x", "root"];
+
+const CONTAINERS: &[&str] = &["a.b", "box", "box-x"];
+
+fn store(alloc: Global) -> Result<MemVault, AllocError> {
+    let mut files = Files::new(alloc);
+    for name in STORED {
+        let name = Text::from_str(alloc, name)?;
+        let bytes = Blob::new(alloc);
+        files.put(File { name, bytes })?;
+    }
+    MemVault::new(alloc, &files, &[])
+}
+
+#[test]
+fn containers_stand_in_byte_order_each_once(rt: HostRuntime) -> Result<(), Fail> {
+    let mut vault = store(rt.alloc())?;
+    let wanted = names(rt.alloc(), CONTAINERS)?;
+    let found = containers(rt.alloc(), &mut vault).map_err(|_| AllocError)?;
+    assert_eq!(rt; found.as_slice(), wanted.as_slice());
     Ok(())
 }
