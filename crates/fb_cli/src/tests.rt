@@ -1,5 +1,6 @@
 //! Calls of the program over files in memory: each row is one file store and the calls over it.
 
+mod damages;
 mod replays;
 mod restores;
 
@@ -161,10 +162,7 @@ fn each_container_is_read_as_its_row_says(rt: HostRuntime) -> Result<(), Fail> {
         good(rt.alloc(), restores::RESTORES)?,
         restores::RESTORES.len()
     );
-    assert_eq!(rt;
-        good(rt.alloc(), restores::DAMAGES)?,
-        restores::DAMAGES.len()
-    );
+    assert_eq!(rt; good(rt.alloc(), damages::DAMAGES)?, damages::DAMAGES.len());
     assert_eq!(rt;
         good(rt.alloc(), restores::CHANGES)?,
         restores::CHANGES.len()

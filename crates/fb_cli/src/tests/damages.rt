@@ -1,0 +1,387 @@
+//! Restores of containers with a damaged file.
+
+use super::restores::{RESTORE_20, WHOLE};
+use super::{Case, LOG, NONE, RANGE, SEALED};
+
+const TWO_BLOCKS: &[u8] =
+    b"\xe9\x03\x00\x00\x00\x00\x00\x00\x00\x00\x00\x01a\x00\x00\x00\x011\xff\xff\xff\xff\xff\xff\xff\xff\xff\xff\xff\xff\xff\xff\xff\xff\xff\xff\xff\xff\xff\xff\xff\xff\xff\xff\xff\xff\xff\xff\xff\xff\xff\xff\xff\xff\xff\xff\xff\xff\xff\xff\xff\xff\xff\xff\xff\xff\xff\xff\xff\xff\xff\xff\xff\xff\xff\xff\xff\xff\xff\xff\xff\xff\xff\xff\xff\xff\xff\xff\xff\xff\xff\xff\xff\xff\xff\xff\xff\xff\xff\xff\xff\xff\xff\xff\xff\xff\xff\xff\xff\xff\xff\xff\xff\xff\xff\xff\xff\xff\xff\xff\xff\xff\xff\xff\xff\xff\xff\xff\xff\xff\xff\xff\xff\xff\xff\xff\xff\xff\xff\xff\xff\xff\xff\xff\xff\xff\xff\xff\xff\xff\xff\xff\xff\xff\xff\xff\xff\xff\xff\xff\xff\xff\xff\xff\xff\xff\xff\xff\xff\xff\xff\xff\xff\xff\xff\xff\xff\xff\xff\xff\xff\xff\xff\xff\xff\xff\xff\xff\xff\xff\xff\xff\xff\xff\xff\xff\xff\xff\xff\xff\xff\xff\xff\xff\xff\xff\xff\xff\xff\xff\xff\xff\xff\xff\xff\xff\xff\xff\xff\xff\xff\xff\xff\xff\xff\xff\xff\xff\xff\xff\xff\xff\xff\xff\xff\xff\xff\xff\xff\xff\xff\xff\xff\xff\xff\xff\xff\xff\xff\xff\xff\xff\xff\xff\xff\xff\xe9\x03\x00\x00\x00\x00\x00\x01b\x00\x00\x00\x01b\x00\x00\x00\x011\x00\x00\x00\x01\xff";
+
+// Each file damaged in each way that its grammar knows, with the fault that is named.
+pub const DAMAGES: &[Case] = &[
+    (
+        &[
+            WHOLE,
+            &[(
+                RANGE,
+                Some(b"\xe9\x03\x00\x00\x00\x00\x00\x00\x00\x00\x00\x01a\x00\x00\x00\x011\x00\x00"),
+            )],
+        ],
+        &[(
+            RESTORE_20,
+            b"",
+            NONE,
+            7,
+            b"refused damaged kvranges/snapshot.20/0/range,20,1,256 short 18\n",
+        )],
+        &[],
+    ),
+    (
+        &[
+            WHOLE,
+            &[(
+                RANGE,
+                Some(
+                    b"\xea\x03\x00\x00\x00\x00\x00\x00\x00\x00\x00\x01a\x00\x00\x00\x011\x00\x00\x00\x01\xff",
+                ),
+            )],
+        ],
+        &[(
+            RESTORE_20,
+            b"",
+            NONE,
+            7,
+            b"refused damaged kvranges/snapshot.20/0/range,20,1,256 format 1002\n",
+        )],
+        &[],
+    ),
+    (
+        &[
+            WHOLE,
+            &[(
+                RANGE,
+                Some(
+                    b"\xe9\x03\x00\x00\x00\x00\x00\x00\x00\x00\x00\x01a\x00\x00\x00\x011\x00\x00\x00\x01\xff\xff\x00",
+                ),
+            )],
+        ],
+        &[(
+            RESTORE_20,
+            b"",
+            NONE,
+            7,
+            b"refused damaged kvranges/snapshot.20/0/range,20,1,256 padding 24\n",
+        )],
+        &[],
+    ),
+    (
+        &[
+            WHOLE,
+            &[(
+                RANGE,
+                Some(
+                    b"\xe9\x03\x00\x00\x00\x00\x00\x00\x00\x00\x00\x01a\x00\x00\x00\x011\x00\x00\x00\x01a",
+                ),
+            )],
+        ],
+        &[(
+            RESTORE_20,
+            b"",
+            NONE,
+            7,
+            b"refused damaged kvranges/snapshot.20/0/range,20,1,256 order 18\n",
+        )],
+        &[],
+    ),
+    (
+        &[WHOLE, &[(RANGE, Some(TWO_BLOCKS))]],
+        &[(
+            RESTORE_20,
+            b"",
+            NONE,
+            7,
+            b"refused damaged kvranges/snapshot.20/0/range,20,1,256 join 1\n",
+        )],
+        &[],
+    ),
+    (
+        &[
+            WHOLE,
+            &[(
+                LOG,
+                Some(
+                    b"\x00\x07\x00\x00\x00\x00\x00\x0c\x00\x00\x00\x00\x00\x00\x00\x14\x00\x00\x00\x00\x00\x00\x00\x1a\xbd\x1b\x00\x00\x00\x00\x00\x00\x0e\x00\x00\x00\x00\x00\x00\x00\x01\x00\x00\x00\x01\x00\x00\x00a1",
+                ),
+            )],
+        ],
+        &[(
+            RESTORE_20,
+            b"",
+            NONE,
+            7,
+            b"refused damaged logs/0/log,10,21,2,256 format 1792\n",
+        )],
+        &[],
+    ),
+    (
+        &[
+            WHOLE,
+            &[(
+                LOG,
+                Some(
+                    b"\xd1\x07\x00\x00\x00\x00\x00\x0c\x00\x00\x00\x00\x00\x00\x00\x14\x00\x00\x00\x00\x00\x00\x00\x1a\xbd\x1b\x00\x00\x00\x00\x00\x00\x0e\x00\x00\x00\x00\x00\x00\x00\x01\x00\x00\x00\x01\x00\x00\x00a",
+                ),
+            )],
+        ],
+        &[(
+            RESTORE_20,
+            b"",
+            NONE,
+            7,
+            b"refused damaged logs/0/log,10,21,2,256 short 20\n",
+        )],
+        &[],
+    ),
+    (
+        &[
+            WHOLE,
+            &[(
+                LOG,
+                Some(
+                    b"\xd1\x07\x00\x00\x00\x00\x00\x0c\x00\x00\x00\x00\x00\x00\x00\x14\x00\x00\x00\x00\x00\x00\x00\x1a\xbd\x1b\x00\x00\x00\x00\x00\x00\x0e\x00\x00\x00\x00\x00\x00\x00\x01\x00\x00\x00\x01\x00\x00\x00a1\xff\x00",
+                ),
+            )],
+        ],
+        &[(
+            RESTORE_20,
+            b"",
+            NONE,
+            7,
+            b"refused damaged logs/0/log,10,21,2,256 padding 51\n",
+        )],
+        &[],
+    ),
+    (
+        &[
+            WHOLE,
+            &[(
+                LOG,
+                Some(
+                    b"\xd1\x07\x00\x00\x00\x00\x00\x0b\x00\x00\x00\x00\x00\x00\x00\x14\x00\x00\x00\x00\x00\x00\x1a\xbd\x1b\x00\x00\x00\x00\x00\x00\x0e\x00\x00\x00\x00\x00\x00\x00\x01\x00\x00\x00\x01\x00\x00\x00a1",
+                ),
+            )],
+        ],
+        &[(
+            RESTORE_20,
+            b"",
+            NONE,
+            7,
+            b"refused damaged logs/0/log,10,21,2,256 key-length 4\n",
+        )],
+        &[],
+    ),
+    (
+        &[
+            WHOLE,
+            &[(
+                LOG,
+                Some(
+                    b"\xd1\x07\x00\x00\x00\x00\x00\x0c\x00\x00\x00\x00\x00\x00\x00\x15\x00\x00\x00\x00\x00\x00\x00\x1a\xbd\x1b\x00\x00\x00\x00\x00\x00\x0e\x00\x00\x00\x00\x00\x00\x00\x01\x00\x00\x00\x01\x00\x00\x00a1",
+                ),
+            )],
+        ],
+        &[(
+            RESTORE_20,
+            b"",
+            NONE,
+            7,
+            b"refused damaged logs/0/log,10,21,2,256 version 4 21\n",
+        )],
+        &[],
+    ),
+    (
+        &[
+            WHOLE,
+            &[(
+                LOG,
+                Some(
+                    b"\xd1\x07\x00\x00\x00\x00\x00\x0c\x00\x00\x00\x00\x00\x00\x00\x14\x00\x00\x00\x01\x00\x00\x00\x1a\xbd\x1b\x00\x00\x00\x00\x00\x00\x0e\x00\x00\x00\x00\x00\x00\x00\x01\x00\x00\x00\x01\x00\x00\x00a1",
+                ),
+            )],
+        ],
+        &[(
+            RESTORE_20,
+            b"",
+            NONE,
+            7,
+            b"refused damaged logs/0/log,10,21,2,256 part 4 1\n",
+        )],
+        &[],
+    ),
+    (
+        &[
+            WHOLE,
+            &[(
+                LOG,
+                Some(
+                    b"\xd1\x07\x00\x00\x00\x00\x00\x0c\x00\x00\x00\x00\x00\x00\x00\x14\x00\x00\x00\x00\x00\x00\x00\x02\xbd\x1b",
+                ),
+            )],
+        ],
+        &[(
+            RESTORE_20,
+            b"",
+            NONE,
+            7,
+            b"refused damaged logs/0/log,10,21,2,256 batch 4 short 0\n",
+        )],
+        &[],
+    ),
+    (
+        &[
+            WHOLE,
+            &[(
+                LOG,
+                Some(
+                    b"\xd1\x07\x00\x00\x00\x00\x00\x0c\x00\x00\x00\x00\x00\x00\x00\x14\x00\x00\x00\x00\x00\x00\x00\x1a\xbc\x1b\x00\x00\x00\x00\x00\x00\x0e\x00\x00\x00\x00\x00\x00\x00\x01\x00\x00\x00\x01\x00\x00\x00a1",
+                ),
+            )],
+        ],
+        &[(
+            RESTORE_20,
+            b"",
+            NONE,
+            7,
+            b"refused damaged logs/0/log,10,21,2,256 batch 4 protocol 7100\n",
+        )],
+        &[],
+    ),
+    (
+        &[
+            WHOLE,
+            &[(
+                LOG,
+                Some(
+                    b"\xd1\x07\x00\x00\x00\x00\x00\x0c\x00\x00\x00\x00\x00\x00\x00\x14\x00\x00\x00\x00\x00\x00\x00\x1a\xbd\x1b\x00\x00\x00\x00\x00\x00\x0f\x00\x00\x00\x00\x00\x00\x00\x01\x00\x00\x00\x01\x00\x00\x00a1",
+                ),
+            )],
+        ],
+        &[(
+            RESTORE_20,
+            b"",
+            NONE,
+            7,
+            b"refused damaged logs/0/log,10,21,2,256 batch 4 length 15 14\n",
+        )],
+        &[],
+    ),
+    (
+        &[
+            WHOLE,
+            &[(
+                LOG,
+                Some(
+                    b"\xd1\x07\x00\x00\x00\x00\x00\x0c\x00\x00\x00\x00\x00\x00\x00\x14\x00\x00\x00\x00\x00\x00\x00\x1a\xbd\x1b\x00\x00\x00\x00\x00\x00\x0e\x00\x00\x00\x03\x00\x00\x00\x01\x00\x00\x00\x01\x00\x00\x00a1",
+                ),
+            )],
+        ],
+        &[(
+            RESTORE_20,
+            b"",
+            NONE,
+            7,
+            b"refused damaged logs/0/log,10,21,2,256 batch 4 code 12 3\n",
+        )],
+        &[],
+    ),
+    (
+        &[
+            WHOLE,
+            &[(
+                LOG,
+                Some(
+                    b"\xd1\x07\x00\x00\x00\x00\x00\x0c\x00\x00\x00\x00\x00\x00\x00\x14\x00\x00\x00\x00\x00\x00\x00\x1a\xbd\x1b\x00\x00\x00\x00\x00\x00\x0e\x00\x00\x00\x01\x00\x00\x00\x01\x00\x00\x00\x01\x00\x00\x00ba",
+                ),
+            )],
+        ],
+        &[(
+            RESTORE_20,
+            b"",
+            NONE,
+            7,
+            b"refused damaged logs/0/log,10,21,2,256 batch 4 backwards 12\n",
+        )],
+        &[],
+    ),
+    (
+        &[WHOLE, &[(SEALED, Some(b"{"))]],
+        &[(
+            RESTORE_20,
+            b"",
+            NONE,
+            7,
+            b"refused damaged snapshots/snapshot,20,20,23,3 json\n",
+        )],
+        &[],
+    ),
+    (
+        &[WHOLE, &[(SEALED, Some(b"[]"))]],
+        &[(
+            RESTORE_20,
+            b"",
+            NONE,
+            7,
+            b"refused damaged snapshots/snapshot,20,20,23,3 field beginVersion\n",
+        )],
+        &[],
+    ),
+    (
+        &[
+            WHOLE,
+            &[(
+                SEALED,
+                Some(
+                    b"{\"beginVersion\":20,\"endVersion\":20,\"files\":[\"x\"],\"format\":1,\"totalBytes\":23}",
+                ),
+            )],
+        ],
+        &[(
+            RESTORE_20,
+            b"",
+            NONE,
+            7,
+            b"refused damaged snapshots/snapshot,20,20,23,3 order 0\n",
+        )],
+        &[],
+    ),
+    (
+        &[
+            WHOLE,
+            &[(
+                SEALED,
+                Some(
+                    b"{\"beginVersion\":20,\"endVersion\":20,\"files\":[\"kvranges/snapshot.20/0/range,20,1,256\"],\"format\":1,\"totalBytes\":24}",
+                ),
+            )],
+        ],
+        &[(
+            RESTORE_20,
+            b"",
+            NONE,
+            7,
+            b"refused damaged snapshots/snapshot,20,20,23,3 versions\n",
+        )],
+        &[],
+    ),
+    (
+        &[WHOLE, &[("box/properties/unreliable_end", Some(b"04"))]],
+        &[(
+            RESTORE_20,
+            b"",
+            NONE,
+            7,
+            b"refused damaged properties/unreliable_end property\n",
+        )],
+        &[],
+    ),
+    (
+        &[WHOLE, &[("box/properties/expired_end", Some(b"x"))]],
+        &[(
+            RESTORE_20,
+            b"",
+            NONE,
+            7,
+            b"refused damaged properties/expired_end property\n",
+        )],
+        &[],
+    ),
+];
