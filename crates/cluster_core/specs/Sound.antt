@@ -108,8 +108,8 @@ pub record IsThere (block : ℕ) (container : Bytes) (files : List File)
   pub content : file_grammars.range block bytes
       ≡ Some (record { range = noted.piece; pairs = pairs })
 
--- the unreliable end of a container in a store, 0 without its file, none where the file isn't in its
--- grammar
+-- the unreliable end of a container in a store, 0 without its file, none where the file isn't in
+-- its grammar
 abbrev pub unreliable_in : Bytes → List File → Option ℕ
 unreliable_in container files = end_of (file_of files (whole_name container unreliable_text))
 

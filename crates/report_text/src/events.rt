@@ -59,7 +59,8 @@ fn put_turn(
 fn put_short(out: &mut Blob, word: &[u8], client: u32, reply: Tail) -> Result<(), AllocError>
     requires word { length word.now ≤ 20 }
     requires reply { length reply ≤ 41 }
-    ensures { OnOk result (out.new ≡ out.old ++ word.now ++ decimal client ++ codes " ->" ++ reply) }
+    ensures { OnOk result
+        (out.new ≡ out.old ++ word.now ++ decimal client ++ codes " ->" ++ reply) }
 {
     let mut tail = reply;
     tail.text(b" ->");
