@@ -1,0 +1,11 @@
+pub mod Copying
+pub mod Cutting
+pub mod Decimals
+pub mod Pairs
+pub mod Jobs
+pub mod Allowing
+pub mod Fitting
+pub mod Keeping
+pub mod Running
+pub mod Soundness
+pub mod Ready

@@ -1,0 +1,13 @@
+pub mod Faults
+pub mod Settings
+pub mod Kinds
+pub mod Keywords
+pub mod Allowed
+pub mod Commands
+pub mod Texts
+pub mod Numbers
+pub mod Words
+pub mod Lines
+pub mod Sofar
+pub mod Grammar
+pub mod inner

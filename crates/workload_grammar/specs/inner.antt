@@ -1,0 +1,3 @@
+-- Definitions that only private clauses cite.
+pub mod Ready
+pub mod Seen
