@@ -9,3 +9,4 @@ pub mod Keeping
 pub mod Running
 pub mod Soundness
 pub mod Ready
+pub mod Again

@@ -10,4 +10,5 @@ pub mod Words
 pub mod Lines
 pub mod Sofar
 pub mod Grammar
+pub mod Spelled
 pub mod inner

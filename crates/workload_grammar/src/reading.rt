@@ -6,6 +6,7 @@ ghost use Rattle.workload_grammar.specs.declared.text_fault.TextKind.TheVariants
 ghost use Rattle.workload_grammar.specs.Texts.{lines_of};
 ghost use Rattle.workload_grammar.specs.Sofar as spec;
 ghost use Rattle.workload_grammar.specs.Grammar.{what, built, most_bytes};
+ghost use Rattle.workload_grammar.specs.Spelled.{IsTextOf};
 ghost use Rattle.workload_grammar.specs.inner.Ready.{IsReady};
 ghost use Rattle.workload_grammar.specs.inner.Seen.{sofar};
 
@@ -24,6 +25,8 @@ pub const MOST_BYTES: u64 = 67_108_864;
 pub fn read_workload(alloc: Global, bytes: &[u8], run: bool) -> Result<Workload, TextFault>
     // The workload that the grammar says, or its first bad line with the first reason.
     ensures built { GivesBut faults.NoMemory what result (built run bytes.now) }
+    // Read a second way: what is read is said by the lines of its text.
+    ensures found { IfOk result (λ w. IsTextOf run bytes.now (what w)) }
     // A text that is too long is refused before any memory is asked for.
     ensures long { most_bytes < length bytes.now → result ≡ Err (faults.Refused 0 kinds.Long) }
 {
