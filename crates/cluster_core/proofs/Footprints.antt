@@ -37,6 +37,7 @@ command_touches s w luck (commands.Cut tag) = job_touches s.pace w tag (on_backu
 command_touches s w luck (commands.Seal tag) = job_touches s.pace w tag (on_backup (seal_job w luck)) (newest tag w.jobs) refl (λ found at. backup_touches s.pace w (seal_job w luck) found at (λ x a. seal_touches s.pace w x luck _ a))
 command_touches s w luck (commands.Abort tag) = job_touches s.pace w tag (abort_job w) (newest tag w.jobs) refl (λ found at. abort_touches s.pace w found at)
 command_touches s w luck (commands.Status tag) = gone s.pace w _
+command_touches s w luck command = same s.pace w _
 
 operator_touches : (s : Settings) (w : State) (luck : Luck) (o : Option Command) → Touches s.pace w (operator_with s w luck o)
 operator_touches s w luck None = same s.pace w _

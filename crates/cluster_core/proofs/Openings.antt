@@ -1,12 +1,13 @@
 -- The opening state is sound.
-use Rattle.std.specs.Prelude.{◌≡◌, ℕ, zero, suc, ◌+◌, true, List, [], ◌∷◌, map, Some, slice_get, nat_eq, refl}
+use Rattle.std.specs.Prelude.{◌≡◌, ℕ, zero, suc, ◌+◌, ◌&&◌, true, List, [], ◌∷◌, length, map, Some, slice_get, nat_eq, nat_le, refl}
+use Rattle.std.specs.List.{list_all}
 use Rattle.std.proofs.Common.{ap, sym, ◌∙◌, arith, subst}
 use Rattle.std.proofs.lemmas.Bool.{eqb-true, and_parts}
 use Rattle.workload_text.specs.declared.ClientScript.{ClientScript}
 use Rattle.workload_text.specs.declared.Workload.{Workload}
 use Rattle.workload_text.specs.declared.Side.{Side}
 use Rattle.workload_text.specs.declared.Side.TheVariants.{Src, Dst}
-use Rattle.workload_text.specs.inner.Scripts.{are_numbered}
+use Rattle.workload_text.specs.Allowed.{are_numbered, is_client}
 use Rattle.client_core.specs.Clients.{ClientState, new_client}
 use Rattle.client_core.specs.Legal.{entries_by}
 use Rattle.database.specs.Dumps.{AreWithin}
@@ -47,10 +48,15 @@ scripts_new : (scripts : List ClientScript) → map (λ (client : ClientState). 
 scripts_new [] = refl
 scripts_new (x ∷ xs) = ap (λ ys. x ∷ ys) (scripts_new xs)
 
+numbered_in : (workload : Workload) → are_numbered 1 workload.clients ≡ true
+numbered_in workload =
+    let xs = workload.clients in
+    (and_parts (are_numbered 1 xs) (list_all is_client xs) (and_parts (nat_le (length xs) 64) (are_numbered 1 xs && list_all is_client xs) workload.clients_allowed).1).0
+
 each_new : (workload : Workload) (number : ℕ) (client : ClientState) → client_at (map new_client workload.clients) number ≡ Some client → IsClientSound [] [] number client
 each_new workload zero client e = cc
 each_new workload (suc k) client e =
-    let new : IsNew (1 + k) client = new_at 1 workload.clients k client workload.numbered e in
+    let new : IsNew (1 + k) client = new_at 1 workload.clients k client (numbered_in workload) e in
     subst (IsClientSound [] [] (suc k)) (sym new.fresh) (new_sound (suc k) client.script (new.numbered ∙ omega arith))
 
 within_none : (block : ℕ) (side : Side) → AreWithin block (on_side side [] [])

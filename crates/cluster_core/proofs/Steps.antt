@@ -39,6 +39,7 @@ command_keeps k p w luck (commands.Cut tag) c h = job_keeps p w tag (on_backup (
 command_keeps k p w luck (commands.Seal tag) c h = job_keeps p w tag (on_backup (seal_job w luck)) (newest tag w.jobs) refl h (λ found at r. backup_keeps p w (seal_job w luck) found at r (λ x a s. seal_keeps k p w luck x h a))
 command_keeps k p w luck (commands.Abort tag) c h = job_keeps p w tag (abort_job w) (newest tag w.jobs) refl h (λ found at r. abort_keeps p w found h at)
 command_keeps k p w luck (commands.Status tag) c h = sound_gone p w h
+command_keeps k p w luck command c h = h
 
 all_get : {X : Type 0} (P : X → Type 0) (xs : List X) (n : ℕ) (x : X) → AllByRecursion P xs → slice_get xs n ≡ Some x → P x
 all_get P [] zero x a e = cc

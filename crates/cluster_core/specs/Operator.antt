@@ -16,6 +16,7 @@ use Rattle.cluster_core.specs.commands.Seal.{seal_job}
 use Rattle.cluster_core.specs.commands.Shared.{on_job}
 use Rattle.cluster_core.specs.commands.Status.{tell_state}
 
+-- What a command gives. One that isn't served yet gives nothing.
 abbrev pub command_gives : Settings → machine.State → Luck → Command → Moved
 command_gives settings state luck (commands.Open tag side container ranges) =
     open_job settings state tag side container ranges luck
@@ -27,6 +28,7 @@ command_gives settings state luck (commands.Seal tag) =
     on_job state tag (on_backup (seal_job state luck))
 command_gives settings state luck (commands.Abort tag) = on_job state tag (abort_job state)
 command_gives settings state luck (commands.Status tag) = tell_state state (newest tag state.jobs)
+command_gives settings state luck command = moved (Ok Nothing) state
 
 abbrev pub operator_with : Settings → machine.State → Luck → Option Command → Moved
 operator_with settings state luck None = moved (Ok Nothing) state

@@ -11,23 +11,24 @@ use Rattle.fb_cli.proofs.Counting.{each_last}
 use Rattle.fb_cli.proofs.Fronts.{owes}
 use Rattle.report_text.specs.declared.EventLine.{EventLine}
 use Rattle.workload_text.specs.declared.Workload.{Workload}
-use Rattle.workload_text.specs.Grammar.{Built, what, built}
+use Rattle.workload_text.specs.Grammar.{Built, what}
 use Rattle.report_text.specs.declared.Report.{Report}
 use Rattle.fb_cli.specs.declared.fault.Fault.{Fault}
-use Rattle.fb_cli.specs.declared.fault.Fault.TheVariants.{SourceFault, SinkFault, VaultFault, NotRestorable, Damaged, VersionsSpent, NoMemory, NoContainer, Missing, NotBuilt}
+use Rattle.fb_cli.specs.declared.fault.Fault.TheVariants.{Usage, TextRefused, SourceFault, SinkFault, VaultFault, NotRestorable, Damaged, VersionsSpent, NoMemory, NoContainer, Missing, NotBuilt}
+use Rattle.fb_cli.specs.Later.{playable}
 use Rattle.fb_cli.specs.Runs.{IsRunReport, fault_in}
 use Rattle.fb_cli.specs.Replays.{IsPlayed, AnswersText, IsOfReplay, IsUnplayed, IsSaid, Replays, OwesStore, SaysText, ReadsText}
 use Rattle.fb_cli.proofs.Texts.{no_fault}
 
-says_ok : (read : Result Built ℕ) (workload : Workload) → SaysText read (Ok workload) → read ≡ Ok (what workload)
+says_ok : (read : Result Built Fault) (workload : Workload) → SaysText read (Ok workload) → read ≡ Ok (what workload)
 says_ok (Ok b) workload h = ap Ok h
-says_ok (Err line) workload h = absurd h
+says_ok (Err refusal) workload h = absurd h
 
 text_says : (source : Stream) (workload : Workload) → ReadsText source (Ok workload) → IsSaid source.before workload
 text_says source workload h bytes e =
     elim (h.answer bytes e) [
       | inl p ↦ cc
-      | inr q ↦ elim q [ inl p ↦ cc | inr s ↦ says_ok (built bytes) workload s ]
+      | inr q ↦ elim q [ inl p ↦ cc | inr s ↦ says_ok (playable bytes) workload s ]
     ]
 
 run_of : (source : Stream) (store : Store) (workload : Workload) (report : Option Report) → IsSaid source.before workload → IfSome report (IsRunReport workload store) → IfSome report (λ r. (w : Workload) × IsSaid source.before w × IsRunReport w store r)
@@ -36,6 +37,8 @@ run_of source store workload (Some report) t h = (workload, t, h)
 
 played_kind : (fault : Option Fault) → IsPlayed fault ⊎ (fault ≡ Some NoMemory) → IsOfReplay fault
 played_kind None k = tt
+played_kind (Some Usage) k = elim k [ inl e ↦ e | inr e ↦ cc ]
+played_kind (Some (TextRefused line kind)) k = tt
 played_kind (Some SourceFault) k = tt
 played_kind (Some SinkFault) k = elim k [ inl e ↦ e | inr e ↦ cc ]
 played_kind (Some VaultFault) k = tt
@@ -57,7 +60,7 @@ played source store workload report fault h kinds reported run last front = reco
   last = last;
   front = inr (workload, text_says source workload h, front);
   kind = played_kind fault kinds;
-  answer = λ bytes e. inr (subst (λ (r : Result Built ℕ). AnswersText r fault) (sym (text_says source workload h bytes e)) kinds);
+  answer = λ bytes e. inr (subst (λ (r : Result Built Fault). AnswersText r fault) (sym (text_says source workload h bytes e)) kinds);
   count = no_fault (fault ≡ Some SourceFault) (Ok workload ≡ Err SourceFault) source.faults_before source.faults_after h.count (not_source fault kinds);
   read = λ bytes e le r. h.read bytes e le tt;
 }
@@ -66,6 +69,8 @@ played source store workload report fault h kinds reported run last front = reco
 
 played_not_idle : (fault : Option Fault) → IsPlayed fault ⊎ (fault ≡ Some NoMemory) → IsUnplayed fault → ⊥
 played_not_idle None k u = u
+played_not_idle (Some Usage) k u = elim k [ inl e ↦ e | inr e ↦ cc ]
+played_not_idle (Some (TextRefused line kind)) k u = elim k [ inl e ↦ e | inr e ↦ cc ]
 played_not_idle (Some SourceFault) k u = elim k [ inl e ↦ e | inr e ↦ cc ]
 played_not_idle (Some SinkFault) k u = u
 played_not_idle (Some VaultFault) k u = u

@@ -1,16 +1,22 @@
 -- What reading a workload's text comes to, by what was read.
-use Rattle.std.specs.Prelude.{◌≡◌, ℕ, ◌+◌, ◌<◌, [], length, Option, Some, Result, Ok, Err, refl}
-use Rattle.std.proofs.Common.{ap, sym, arith, subst, inl, inr, cond}
+use Rattle.std.specs.Prelude.{◌≡◌, ℕ, ◌+◌, ◌<◌, [], false, length, Option, Some, None, Result, Ok, Err, refl}
+use Rattle.std.proofs.Common.{ap, sym, ◌∙◌, arith, subst, inl, inr, cond}
 use Rattle.std.proofs.lemmas.Bool.{lt-ltb}
 use Rattle.fb_bytes.specs.Bytes.{Bytes}
 use Rattle.fb_outside.specs.Faults.{Counts}
 use Rattle.workload_text.specs.declared.Workload.{Workload}
-use Rattle.workload_text.specs.Grammar.{Built, what, built, whole, most_bytes}
-use Rattle.workload_text.specs.Lines.{numbered}
+use Rattle.workload_text.specs.declared.TextFault.TheVariants.{Refused}
+use Rattle.workload_text.specs.declared.TextKind.{TextKind}
+use Rattle.workload_text.specs.declared.TextKind.TheVariants.{Long}
+use Rattle.workload_text.specs.Grammar.{Built, what, built, built_of, most_bytes}
+use Rattle.workload_text.specs.Sofar.{Sofar, at_start, with_lines}
 use Rattle.workload_text.specs.Texts.{lines_of}
-use Rattle.fb_cli.specs.declared.fault.Fault.TheVariants.{SourceFault, NoMemory, NotBuilt}
+use Rattle.fb_bytes.specs.Results.{◌>>=◌}
+use Rattle.fb_cli.specs.declared.fault.Fault.{Fault}
+use Rattle.fb_cli.specs.declared.fault.Fault.TheVariants.{TextRefused, SourceFault, NoMemory, NotBuilt}
+use Rattle.fb_cli.specs.Later.{first_later, played_unless, unless_later, playable}
 use Rattle.fb_cli.specs.Outside.{stream_change}
-use Rattle.fb_cli.specs.Replays.{SaysText, ReadsText}
+use Rattle.fb_cli.specs.Replays.{IsOfReading, SaysText, ReadsText}
 
 -- a count that isn't to have risen
 pub no_fault : (P Q : Type 0) (f f' : ℕ) → Counts f f' Q → (P → ⊥) → Counts f f' P
@@ -24,17 +30,35 @@ failed_text left left' f f' Q c q = record {
   read = λ bytes e le r. absurd r;
 }
 
-says_not_built : (read : Result Built ℕ) (line : ℕ) → read ≡ Err line → SaysText read (Err (NotBuilt line))
-says_not_built read line e = subst (λ (r : Result Built ℕ). SaysText r (Err (NotBuilt line))) (sym e) refl
+says_refused : (read : Result Built Fault) (refusal : Fault) → read ≡ Err refusal → SaysText read (Err refusal)
+says_refused read refusal e = subst (λ (r : Result Built Fault). SaysText r (Err refusal)) (sym e) refl
 
-too_long : (text : Bytes) → most_bytes < length text → built text ≡ Err 0
-too_long text h = ap (λ b. cond b (Err 0) (whole (length (lines_of text) + 1) (numbered 1 (lines_of text)))) (lt-ltb _ _ h)
+-- ---- a text, by what it says and by its first line that isn't played yet
 
-pub long_text : (left left' : Option Bytes) (f f' : ℕ) (Q : Type 0) → Counts f f' Q → ((bytes : Bytes) → left ≡ Some bytes → most_bytes < length bytes) → ReadsText (stream_change left left' f f') (Err (NotBuilt 0))
+bad_playable : (text : Bytes) (line : ℕ) (kind : TextKind) → built false text ≡ Err (Refused line kind) → playable text ≡ Err (TextRefused line kind)
+bad_playable text line kind e = ap (unless_later (first_later 1 (lines_of text))) e
+
+good_playable : (text : Bytes) (w : Built) (later : Option ℕ) → built false text ≡ Ok w → first_later 1 (lines_of text) ≡ later → playable text ≡ played_unless later w
+good_playable text w later e l = ap (unless_later (first_later 1 (lines_of text))) e ∙ ap (λ (o : Option ℕ). played_unless o w) l
+
+too_long : (text : Bytes) → most_bytes < length text → built false text ≡ Err (Refused 0 Long)
+too_long text h = ap (λ b. cond b (Err (Refused 0 Long)) (with_lines false 1 at_start (lines_of text) >>= λ (s : Sofar). Ok (built_of s))) (lt-ltb _ _ h)
+
+-- ---- what reading it comes to
+
+refused_text : (left left' : Option Bytes) (f f' : ℕ) (Q : Type 0) (text : Bytes) (refusal : Fault) → Counts f f' Q → ((bytes : Bytes) → left ≡ Some bytes → (text ≡ bytes) × (left' ≡ Some [])) → playable text ≡ Err refusal → IsOfReading (Some refusal) → (Err refusal ≡ Err SourceFault → ⊥) → ReadsText (stream_change left left' f f') (Err refusal)
+refused_text left left' f f' Q text refusal c h b r n = record {
+  answer = λ bytes e. let k = h bytes e in inr (inr (subst (λ (t : Bytes). SaysText (playable t) (Err refusal)) k.0 (says_refused (playable text) refusal b)));
+  kind = r;
+  count = no_fault (Err refusal ≡ Err SourceFault) Q f f' c n;
+  read = λ bytes e le q. let k = h bytes e in k.1;
+}
+
+pub long_text : (left left' : Option Bytes) (f f' : ℕ) (Q : Type 0) → Counts f f' Q → ((bytes : Bytes) → left ≡ Some bytes → most_bytes < length bytes) → ReadsText (stream_change left left' f f') (Err (TextRefused 0 Long))
 long_text left left' f f' Q c h = record {
-  answer = λ bytes e. inr (inr (says_not_built (built bytes) 0 (too_long bytes (h bytes e))));
+  answer = λ bytes e. inr (inr (says_refused (playable bytes) (TextRefused 0 Long) (bad_playable bytes 0 Long (too_long bytes (h bytes e)))));
   kind = tt;
-  count = no_fault (Err (NotBuilt 0) ≡ Err SourceFault) Q f f' c (λ p. cc);
+  count = no_fault (Err (TextRefused 0 Long) ≡ Err SourceFault) Q f f' c (λ p. cc);
   read = λ bytes e le r. let l : most_bytes < length bytes = h bytes e in absurd (omega arith);
 }
 
@@ -46,18 +70,16 @@ starved_text left left' f f' Q c = record {
   read = λ bytes e le r. absurd r;
 }
 
-pub built_text : (left left' : Option Bytes) (f f' : ℕ) (Q : Type 0) (text : Bytes) (workload : Workload) → Counts f f' Q → ((bytes : Bytes) → left ≡ Some bytes → (text ≡ bytes) × (left' ≡ Some [])) → built text ≡ Ok (what workload) → ReadsText (stream_change left left' f f') (Ok workload)
-built_text left left' f f' Q text workload c h b = record {
-  answer = λ bytes e. let k = h bytes e in inr (inr (subst (λ (t : Bytes). SaysText (built t) (Ok workload)) k.0 (subst (λ (r : Result Built ℕ). SaysText r (Ok workload)) (sym b) refl)));
+pub built_text : (left left' : Option Bytes) (f f' : ℕ) (Q : Type 0) (text : Bytes) (workload : Workload) → Counts f f' Q → ((bytes : Bytes) → left ≡ Some bytes → (text ≡ bytes) × (left' ≡ Some [])) → built false text ≡ Ok (what workload) → first_later 1 (lines_of text) ≡ None → ReadsText (stream_change left left' f f') (Ok workload)
+built_text left left' f f' Q text workload c h b l = record {
+  answer = λ bytes e. let k = h bytes e in inr (inr (subst (λ (t : Bytes). SaysText (playable t) (Ok workload)) k.0 (subst (λ (r : Result Built Fault). SaysText r (Ok workload)) (sym (good_playable text (what workload) None b l)) refl)));
   kind = tt;
   count = no_fault (Ok workload ≡ Err SourceFault) Q f f' c (λ p. cc);
   read = λ bytes e le r. let k = h bytes e in k.1;
 }
 
-pub bad_text : (left left' : Option Bytes) (f f' : ℕ) (Q : Type 0) (text : Bytes) (line : ℕ) → Counts f f' Q → ((bytes : Bytes) → left ≡ Some bytes → (text ≡ bytes) × (left' ≡ Some [])) → built text ≡ Err line → ReadsText (stream_change left left' f f') (Err (NotBuilt line))
-bad_text left left' f f' Q text line c h b = record {
-  answer = λ bytes e. let k = h bytes e in inr (inr (subst (λ (t : Bytes). SaysText (built t) (Err (NotBuilt line))) k.0 (says_not_built (built text) line b)));
-  kind = tt;
-  count = no_fault (Err (NotBuilt line) ≡ Err SourceFault) Q f f' c (λ p. cc);
-  read = λ bytes e le r. let k = h bytes e in k.1;
-}
+pub later_text : (left left' : Option Bytes) (f f' : ℕ) (Q : Type 0) (text : Bytes) (w : Built) (line : ℕ) → Counts f f' Q → ((bytes : Bytes) → left ≡ Some bytes → (text ≡ bytes) × (left' ≡ Some [])) → built false text ≡ Ok w → first_later 1 (lines_of text) ≡ Some line → ReadsText (stream_change left left' f f') (Err (NotBuilt line))
+later_text left left' f f' Q text w line c h b l = refused_text left left' f f' Q text (NotBuilt line) c h (good_playable text w (Some line) b l) tt (λ p. cc)
+
+pub bad_text : (left left' : Option Bytes) (f f' : ℕ) (Q : Type 0) (text : Bytes) (line : ℕ) (kind : TextKind) → Counts f f' Q → ((bytes : Bytes) → left ≡ Some bytes → (text ≡ bytes) × (left' ≡ Some [])) → built false text ≡ Err (Refused line kind) → ReadsText (stream_change left left' f f') (Err (TextRefused line kind))
+bad_text left left' f f' Q text line kind c h b = refused_text left left' f f' Q text (TextRefused line kind) c h (bad_playable text line kind b) tt (λ p. cc)

@@ -5,11 +5,13 @@ use Rattle.fb_bytes.specs.Bytes.{Bytes}
 use Rattle.cluster_core.specs.declared.Answer.{Answer}
 use Rattle.cluster_core.specs.declared.StepFault.{StepFault}
 use Rattle.cluster_core.specs.declared.StepFault.TheVariants as steps
+use Rattle.workload_text.specs.Faults.{kind_word}
 use Rattle.report_text.specs.declared.EventLine.{EventLine}
 use Rattle.report_text.specs.Descriptions.{number_or_none}
 use Rattle.report_text.specs.Faults.{file_fault_words}
 use Rattle.report_text.specs.Lines.{behind}
 use Rattle.fb_cli.specs.declared.fault.Fault.{Fault}
+use Rattle.fb_cli.specs.declared.fault.Fault.TheVariants.{Usage, TextRefused}
 use Rattle.fb_cli.specs.declared.fault.Fault.TheVariants.{SourceFault, SinkFault, VaultFault}
 use Rattle.fb_cli.specs.declared.fault.Fault.TheVariants.{NotRestorable, Damaged, VersionsSpent}
 use Rattle.fb_cli.specs.declared.fault.Fault.TheVariants.{NoMemory, NoContainer, Missing, NotBuilt}
@@ -17,6 +19,8 @@ use Rattle.fb_cli.specs.declared.fault.Fault.TheVariants.{NoMemory, NoContainer,
 -- the status that a command ends with
 abbrev pub status_of : Option Fault → ℕ
 status_of None = 0
+status_of (Some Usage) = 1
+status_of (Some (TextRefused line kind)) = 2
 status_of (Some SourceFault) = 3
 status_of (Some SinkFault) = 4
 status_of (Some VaultFault) = 5
@@ -31,6 +35,9 @@ status_of (Some (NotBuilt line)) = 15
 -- the line of a refusal; two have none
 abbrev pub refusal_line : Option Fault → Bytes
 refusal_line None = []
+refusal_line (Some Usage) = codes "refused usage\n"
+refusal_line (Some (TextRefused line kind)) =
+    codes "refused text " ++ (decimal line ++ (codes " " ++ (kind_word kind ++ codes "\n")))
 refusal_line (Some SourceFault) = codes "refused source-fault\n"
 refusal_line (Some SinkFault) = []
 refusal_line (Some VaultFault) = codes "refused vault-fault\n"

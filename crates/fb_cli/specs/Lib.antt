@@ -3,6 +3,7 @@ pub mod Faults
 pub mod Causes
 pub mod Runs
 pub mod Fronts
+pub mod Later
 pub mod Replays
 pub mod Restores
 pub mod Describes

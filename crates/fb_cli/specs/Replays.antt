@@ -4,13 +4,15 @@ use Rattle.std.specs.Prelude.{is_some, IsSome, IfSome, ◌↔◌}
 use Rattle.fb_bytes.specs.Bytes.{Bytes}
 use Rattle.fb_outside.specs.Faults.{Counts}
 use Rattle.workload_text.specs.declared.Workload.{Workload}
-use Rattle.workload_text.specs.Grammar.{Built, what, built, most_bytes}
+use Rattle.workload_text.specs.Grammar.{Built, what, most_bytes}
 use Rattle.report_text.specs.declared.Report.{Report}
 use Rattle.fb_cli.specs.Fronts.{LeavesFront}
+use Rattle.fb_cli.specs.Later.{playable}
 use Rattle.fb_cli.specs.Outside.{Stream, Store, IsLeft}
 use Rattle.fb_cli.specs.Runs.{IsRunReport, fault_in}
 use Rattle.fb_cli.specs.declared.fault.Fault.{Fault}
-use Rattle.fb_cli.specs.declared.fault.Fault.TheVariants.{SourceFault, VaultFault}
+use Rattle.fb_cli.specs.declared.fault.Fault.TheVariants.{Usage, TextRefused, SourceFault}
+use Rattle.fb_cli.specs.declared.fault.Fault.TheVariants.{VaultFault}
 use Rattle.fb_cli.specs.declared.fault.Fault.TheVariants.{VersionsSpent, NoMemory, NotBuilt}
 
 -- The schedule was played to its end: there is no refusal but one of its last step.
@@ -20,22 +22,31 @@ IsPlayed (Some VaultFault) = Unit {0}
 IsPlayed (Some (VersionsSpent version)) = Unit {0}
 IsPlayed fault = ⊥
 
+-- The text isn't played.
+abbrev pub IsRefused : Option Fault → Type 0
+IsRefused (Some (TextRefused line kind)) = Unit {0}
+IsRefused (Some (NotBuilt line)) = Unit {0}
+IsRefused fault = ⊥
+
 -- No step was made, and there was memory.
 abbrev pub IsUnplayed : Option Fault → Type 0
+IsUnplayed (Some Usage) = Unit {0}
 IsUnplayed (Some SourceFault) = Unit {0}
-IsUnplayed (Some (NotBuilt line)) = Unit {0}
-IsUnplayed fault = ⊥
+IsUnplayed fault = IsRefused fault
 
 -- A text that isn't too long was read to its end.
 abbrev pub ReadsAll : Option Fault → Type 0
-ReadsAll (Some (NotBuilt line)) = Unit {0}
-ReadsAll fault = IsPlayed fault
+ReadsAll None = Unit {0}
+ReadsAll (Some VaultFault) = Unit {0}
+ReadsAll (Some (VersionsSpent version)) = Unit {0}
+ReadsAll fault = IsRefused fault
 
 -- the refusals that reading a text may come to
 abbrev pub IsOfReading : Option Fault → Type 0
 IsOfReading None = Unit {0}
+IsOfReading (Some SourceFault) = Unit {0}
 IsOfReading (Some NoMemory) = Unit {0}
-IsOfReading fault = IsUnplayed fault
+IsOfReading fault = IsRefused fault
 
 -- the refusals that a replay may come to
 abbrev pub IsOfReplay : Option Fault → Type 0
@@ -43,15 +54,15 @@ IsOfReplay (Some VaultFault) = Unit {0}
 IsOfReplay (Some (VersionsSpent version)) = Unit {0}
 IsOfReplay fault = IsOfReading fault
 
--- What a text is answered: one that is built is played, another one names its first line that
--- isn't; want of memory may stand in place of either.
-abbrev pub AnswersText : Result Built ℕ → Option Fault → Type 0
+-- What a text is answered: one that can be played is played, another one has its refusal; want of
+-- memory may stand in place of either.
+abbrev pub AnswersText : Result Built Fault → Option Fault → Type 0
 AnswersText (Ok what) fault = IsPlayed fault ⊎ (fault ≡ Some NoMemory)
-AnswersText (Err line) fault = (fault ≡ Some (NotBuilt line)) ⊎ (fault ≡ Some NoMemory)
+AnswersText (Err refusal) fault = (fault ≡ Some refusal) ⊎ (fault ≡ Some NoMemory)
 
 -- The workload is what the source's text says, where the source tells it.
 abbrev pub IsSaid : Option Bytes → Workload → Type 0
-IsSaid text workload = (bytes : Bytes) → text ≡ Some bytes → built bytes ≡ Ok (what workload)
+IsSaid text workload = (bytes : Bytes) → text ≡ Some bytes → playable bytes ≡ Ok (what workload)
 
 -- A replay of what a source has left, over a file store.
 pub record Replays
@@ -73,7 +84,7 @@ pub record Replays
   -- each refusal has its cause
   pub kind : IsOfReplay fault
   pub answer : (bytes : Bytes) → source.before ≡ Some bytes →
-      (fault ≡ Some SourceFault) ⊎ AnswersText (built bytes) fault
+      (fault ≡ Some SourceFault) ⊎ AnswersText (playable bytes) fault
   pub count : Counts source.faults_before source.faults_after (fault ≡ Some SourceFault)
   -- a text that isn't too long was read to its end
   pub read : (bytes : Bytes) → source.before ≡ Some bytes → length bytes ≤ most_bytes →
@@ -93,16 +104,16 @@ fault_of_read (Ok workload) = None
 fault_of_read (Err fault) = Some fault
 
 -- the result is what the text says
-abbrev pub SaysText : Result Built ℕ → Result Workload Fault → Type 0
+abbrev pub SaysText : Result Built Fault → Result Workload Fault → Type 0
 SaysText (Ok built) (Ok workload) = built ≡ what workload
-SaysText (Err line) (Err fault) = fault ≡ NotBuilt line
+SaysText (Err refusal) (Err fault) = fault ≡ refusal
 SaysText (Ok built) (Err fault) = ⊥
-SaysText (Err line) (Ok workload) = ⊥
+SaysText (Err refusal) (Ok workload) = ⊥
 
 -- What reading the text of a workload comes to.
 pub record ReadsText (source : Stream) (result : Result Workload Fault) : Type 0 where
   pub answer : (bytes : Bytes) → source.before ≡ Some bytes →
-      (result ≡ Err SourceFault) ⊎ ((result ≡ Err NoMemory) ⊎ SaysText (built bytes) result)
+      (result ≡ Err SourceFault) ⊎ ((result ≡ Err NoMemory) ⊎ SaysText (playable bytes) result)
   pub kind : IsOfReading (fault_of_read result)
   pub count : Counts source.faults_before source.faults_after (result ≡ Err SourceFault)
   pub read : (bytes : Bytes) → source.before ≡ Some bytes → length bytes ≤ most_bytes →

@@ -35,11 +35,12 @@ use Rattle.fb_cli.specs.Faults.{last_fault}
 use Rattle.fb_cli.specs.Outside.{Store}
 use Rattle.fb_cli.specs.declared.fault.Fault.{Fault}
 
--- the event of a schedule's line
+-- The event of a schedule's line. A line that isn't played yet has none of its own; a text with
+-- such a line is refused.
 abbrev pub event_of : ScheduleLine → Event
 event_of (lines.Begin client) = events.Begin client
 event_of (lines.Commit client) = events.Commit client
-event_of lines.Op = events.Command
+event_of line = events.Command
 
 -- the kind of the operator's next command in this state, where one is left
 abbrev pub next_kind : Workload → State → Option CommandKind
@@ -49,7 +50,7 @@ next_kind workload state = option_map kind_of (slice_get workload.operator state
 abbrev pub command_of : Workload → State → ScheduleLine → Option CommandKind
 command_of workload state (lines.Begin client) = None
 command_of workload state (lines.Commit client) = None
-command_of workload state lines.Op = next_kind workload state
+command_of workload state line = next_kind workload state
 
 -- The turns of the machine that an event line tells: one, of its event, with its answer.
 abbrev pub AreTurnsOf : EventLine → List Turn → Type 0

@@ -8,10 +8,16 @@ use fb_bytes::{Blob, Text};
 use itoa::Buffer;
 use report_text::{EventLine, put_file_fault, put_number_or_none};
 use std::alloc::{AllocError, Global};
+use workload_text::TextKind;
 
 /// Why a command was refused.
 #[derive(Debug, Drop)]
 pub enum Fault {
+    /// The words aren't a command of the program.
+    Usage,
+    /// The text says no workload: its first line that isn't allowed, from 1, and why; line 0 where it
+    /// is too long.
+    TextRefused { line: u64, kind: TextKind },
     /// The source failed.
     SourceFault,
     /// The sink failed.
@@ -31,8 +37,7 @@ pub enum Fault {
     NoContainer,
     /// A file that is needed isn't there.
     Missing { name: Text },
-    /// The words or the text aren't built: the first line that isn't, from 1, the number after the
-    /// last line where the text ends too early, and 0 for the words and for a text that is too long.
+    /// This isn't played yet: the text's first line of that sort, from 1, and 0 for words.
     NotBuilt { line: u64 },
 }
 
@@ -42,6 +47,8 @@ pub fn status_of(fault: &Option<Fault>) -> u8
 {
     match fault {
         None => 0,
+        Some(Fault::Usage) => 1,
+        Some(Fault::TextRefused { .. }) => 2,
         Some(Fault::SourceFault) => 3,
         Some(Fault::SinkFault) => 4,
         Some(Fault::VaultFault) => 5,
@@ -98,6 +105,8 @@ pub fn push_refusal(alloc: Global, out: &mut Blob, fault: &Option<Fault>) -> Res
     ensures { IfOk result (λ _. out.new ≡ out.old ++ refusal_line fault.now) }
 {
     match fault {
+        Some(Fault::Usage) => out.extend_from_slice(b"refused usage\n"),
+        Some(Fault::TextRefused { line, kind }) => push_text_refused(out, *line, *kind),
         Some(Fault::SourceFault) => out.extend_from_slice(b"refused source-fault\n"),
         Some(Fault::VaultFault) => out.extend_from_slice(b"refused vault-fault\n"),
         Some(Fault::NotRestorable { min, max }) => push_not_restorable(out, *min, *max),
@@ -120,6 +129,14 @@ fn push_number(out: &mut Blob, front: &[u8], number: u64, back: &[u8]) -> Result
     out.extend_from_slice(front)?;
     out.extend_from_slice(buffer.format(number).as_bytes())?;
     out.extend_from_slice(back)
+}
+
+fn push_text_refused(out: &mut Blob, line: u64, kind: TextKind) -> Result<(), AllocError>
+    ensures { IfOk result (λ _. out.new ≡ out.old ++ refusal_line (Some (Fault.TextRefused line kind))) }
+{
+    push_number(out, b"refused text ", line, b" ")?;
+    out.extend_from_slice(kind.word().as_bytes())?;
+    out.extend_from_slice(b"\n")
 }
 
 fn push_not_restorable(out: &mut Blob, min: Option<u64>, max: Option<u64>) -> Result<(), AllocError>

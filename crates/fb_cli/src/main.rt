@@ -4,6 +4,7 @@
 
 mod describe;
 mod fault;
+mod later;
 mod replay;
 mod restore;
 mod top;

@@ -10,12 +10,15 @@ ghost use Rattle.fb_cli.specs.Runs.{event_of, command_of, next_kind, schedule_of
 ghost use Rattle.fb_cli.specs.Replays.{IsPlayed, Replays, OwesStore, ReadsText};
 
 use crate::fault::{Fault, last_fault};
+use crate::later::first_later;
 use cluster_core::{Answer, Event, StepFault, World, faithful_law};
 use fb_bytes::Seq;
 use fb_outside::{ReadFault, Source, Vault, read_all};
 use report_text::{EventLine, Report, RunReport};
 use std::alloc::{AllocError, Global};
-use workload_text::{CommandKind, MOST_BYTES, ScheduleLine, TextFault, Workload, read_workload};
+use workload_text::{
+    CommandKind, MOST_BYTES, ScheduleLine, TextFault, TextKind, Workload, read_workload,
+};
 
 /// How a command ended: its status, what it has to tell, why it was refused, and the file store.
 #[derive(Drop)]
@@ -53,12 +56,20 @@ fn read_text<S: Source>(alloc: Global, source: &mut S) -> Result<Workload, Fault
     let text = match read_all(alloc, source, MOST_BYTES) {
         Ok(text) => text,
         Err(ReadFault::Failed) => return Err(Fault::SourceFault),
-        Err(ReadFault::TooLong) => return Err(Fault::NotBuilt { line: 0 }),
+        Err(ReadFault::TooLong) => {
+            return Err(Fault::TextRefused {
+                line: 0,
+                kind: TextKind::Long,
+            });
+        }
         Err(ReadFault::NoMemory) => return Err(Fault::NoMemory),
     };
-    match read_workload(alloc, text.as_slice()) {
-        Ok(workload) => Ok(workload),
-        Err(TextFault::NotBuilt { line }) => Err(Fault::NotBuilt { line }),
+    match read_workload(alloc, text.as_slice(), false) {
+        Ok(workload) => match first_later(text.as_slice()) {
+            Some(line) => Err(Fault::NotBuilt { line }),
+            None => Ok(workload),
+        },
+        Err(TextFault::Refused { line, kind }) => Err(Fault::TextRefused { line, kind }),
         Err(TextFault::NoMemory) => Err(Fault::NoMemory),
     }
 }
@@ -194,7 +205,7 @@ fn command_of<V: Vault>(world: &World<V>, line: ScheduleLine) -> Option<CommandK
 {
     match line {
         ScheduleLine::Begin { .. } | ScheduleLine::Commit { .. } => None,
-        ScheduleLine::Op => next_kind(world),
+        _ => next_kind(world),
     }
 }
 
@@ -215,6 +226,6 @@ fn event_of(line: ScheduleLine) -> Event
     match line {
         ScheduleLine::Begin { client } => Event::Begin { client },
         ScheduleLine::Commit { client } => Event::Commit { client },
-        ScheduleLine::Op => Event::Command,
+        _ => Event::Command,
     }
 }

@@ -4,7 +4,7 @@ use Rattle.std.specs.Prelude.{decimal}
 use Rattle.fb_bytes.specs.Bytes.{Bytes}
 use Rattle.fb_bytes.specs.Words.{printed}
 use Rattle.workload_text.specs.declared.ScheduleLine.{ScheduleLine}
-use Rattle.workload_text.specs.declared.ScheduleLine.TheVariants.{Begin, Commit, Op}
+use Rattle.workload_text.specs.declared.ScheduleLine.TheVariants as events
 use Rattle.task_kinds.specs.declared.JobState.{JobState}
 use Rattle.cluster_core.specs.declared.Refusal.{Refusal}
 use Rattle.cluster_core.specs.declared.Refusal.TheVariants.{TagBusy, ContainerTaken, ContainerInUse}
@@ -29,9 +29,18 @@ command_words (Some kind) = command_word kind ∷ []
 
 -- what came, and the command of an operator's step
 abbrev pub event_words : ScheduleLine → Option CommandKind → List Bytes
-event_words (Begin client) command = codes "begin" ∷ decimal client ∷ []
-event_words (Commit client) command = codes "commit" ∷ decimal client ∷ []
-event_words Op command = codes "op" ∷ command_words command
+event_words (events.Begin client) command = codes "begin" ∷ decimal client ∷ []
+event_words (events.Commit client) command = codes "commit" ∷ decimal client ∷ []
+event_words (events.Tick n) command = codes "tick" ∷ decimal n ∷ []
+event_words (events.Claim agent pick) command =
+    codes "claim" ∷ decimal agent ∷ decimal pick ∷ []
+event_words (events.Extend agent) command = codes "extend" ∷ decimal agent ∷ []
+event_words (events.Take agent) command = codes "take" ∷ decimal agent ∷ []
+event_words (events.Place agent) command = codes "place" ∷ decimal agent ∷ []
+event_words (events.Close agent) command = codes "close" ∷ decimal agent ∷ []
+event_words (events.Die agent) command = codes "die" ∷ decimal agent ∷ []
+event_words events.Op command = codes "op" ∷ command_words command
+event_words events.Drain command = codes "drain" ∷ []
 
 -- why a command was refused
 abbrev pub refusal_words : Refusal → List Bytes

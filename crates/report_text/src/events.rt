@@ -31,7 +31,18 @@ fn put_event(alloc: Global, out: &mut Blob, event: &EventLine) -> Result<(), All
     match event.line {
         ScheduleLine::Begin { client } => put_turn(alloc, out, b"begin ", client, &event.answer),
         ScheduleLine::Commit { client } => put_turn(alloc, out, b"commit ", client, &event.answer),
+        ScheduleLine::Tick { n } => put_numbered(alloc, out, b"tick ", n, &event.answer),
+        ScheduleLine::Claim { agent, pick } => put_claim(alloc, out, agent, pick, &event.answer),
+        ScheduleLine::Extend { agent } => put_turn(alloc, out, b"extend ", agent, &event.answer),
+        ScheduleLine::Take { agent } => put_turn(alloc, out, b"take ", agent, &event.answer),
+        ScheduleLine::Place { agent } => put_turn(alloc, out, b"place ", agent, &event.answer),
+        ScheduleLine::Close { agent } => put_turn(alloc, out, b"close ", agent, &event.answer),
+        ScheduleLine::Die { agent } => put_turn(alloc, out, b"die ", agent, &event.answer),
         ScheduleLine::Op => put_step(alloc, out, event.command, &event.answer),
+        ScheduleLine::Drain => {
+            put(out, b"drain")?;
+            put_answered(alloc, out, &event.answer)
+        }
     }
 }
 
@@ -39,20 +50,50 @@ fn put_turn(
     alloc: Global,
     out: &mut Blob,
     word: &[u8],
-    client: u32,
+    number: u32,
     answer: &Result<Answer, StepFault>,
 ) -> Result<(), AllocError>
     requires { length word.now ≤ 20 }
-    ensures { OnOk result (out.new ≡ out.old ++ word.now ++ decimal client
+    ensures { OnOk result (out.new ≡ out.old ++ word.now ++ decimal number
         ++ behind (codes "->" ∷ reply_words answer.now)) }
 {
     match short_reply(answer) {
-        Some(tail) => put_short(out, word, client, tail),
+        Some(tail) => put_short(out, word, number, tail),
         None => {
-            put_field(out, word, client)?;
+            put_field(out, word, number)?;
             put_answered(alloc, out, answer)
         }
     }
+}
+
+fn put_numbered(
+    alloc: Global,
+    out: &mut Blob,
+    word: &[u8],
+    number: u64,
+    answer: &Result<Answer, StepFault>,
+) -> Result<(), AllocError>
+    ensures { OnOk result (out.new ≡ out.old ++ word.now ++ decimal number
+        ++ behind (codes "->" ∷ reply_words answer.now)) }
+{
+    put_field(out, word, number)?;
+    put_answered(alloc, out, answer)
+}
+
+fn put_claim(
+    alloc: Global,
+    out: &mut Blob,
+    agent: u32,
+    pick: u64,
+    answer: &Result<Answer, StepFault>,
+) -> Result<(), AllocError>
+    ensures { OnOk result
+        (out.new ≡ out.old
+        ++ line (codes "claim" ∷ decimal agent ∷ decimal pick ∷ codes "->" ∷ reply_words answer.now)) }
+{
+    put_field(out, b"claim ", agent)?;
+    put_field(out, b" ", pick)?;
+    put_answered(alloc, out, answer)
 }
 
 /// The line of a client's step, from its word on.

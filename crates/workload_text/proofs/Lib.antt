@@ -1,5 +1,12 @@
+pub mod Copying
 pub mod Cutting
+pub mod Decimals
 pub mod Pairs
+pub mod Jobs
+pub mod Allowing
+pub mod Fitting
+pub mod Keeping
 pub mod Running
-pub mod Spelling
+pub mod Soundness
+pub mod Ready
 pub mod Again

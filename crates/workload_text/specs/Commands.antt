@@ -1,6 +1,6 @@
 -- What a command of the operator keeps.
 use Rattle.std.specs.Prelude.{◌≡◌, ◌<◌, ◌≤◌, ℕ, Bool, true, false, not, ◌&&◌, ◌||◌, [], ◌∷◌, length}
-use Rattle.std.specs.Prelude.{nat_eq, nat_le, List}
+use Rattle.std.specs.Prelude.{nat_eq, nat_le, List, Option, Some, None}
 use Rattle.std.specs.List.{list_all, AllByRecursion-prop}
 use Rattle.std.specs.Coded.{×_prop, le_prop}
 use Rattle.std.proofs.Math.Bool.{Bool-set}
@@ -8,9 +8,15 @@ use Rattle.block_frame.specs.Profiles.{key_limit_of}
 use Rattle.fb_bytes.specs.Bytes.{Bytes, is_below}
 use Rattle.fb_bytes.specs.declared.KeyRange.{KeyRange}
 use Rattle.fb_bytes.specs.Keys.{is_backwards, is_past_user, BeginPast, AreSeparate, AreRanges}
+use Rattle.fb_bytes.specs.Limits.{most_number}
 use Rattle.workload_text.specs.declared.command.Command.{Command}
-use Rattle.workload_text.specs.declared.command.Command.TheVariants.{Open, Dump, Cut, Seal, Abort}
-use Rattle.workload_text.specs.declared.command.Command.TheVariants.{Status}
+use Rattle.workload_text.specs.declared.command.Command.TheVariants.{Open, Dump}
+use Rattle.workload_text.specs.declared.command.Command.TheVariants.{Cut, Seal, Backup}
+use Rattle.workload_text.specs.declared.command.Command.TheVariants.{Snapshot}
+use Rattle.workload_text.specs.declared.command.Command.TheVariants.{Discontinue, Abort}
+use Rattle.workload_text.specs.declared.command.Command.TheVariants.{Pause, Resume, Wait, Status}
+use Rattle.workload_text.specs.declared.command.Command.TheVariants.{Expire, Restore, Dr, Switch}
+use Rattle.workload_text.specs.declared.command.Command.TheVariants.{Lag}
 
 -- ---- names
 
@@ -36,12 +42,21 @@ is_container_name name = begins_well name && nat_le (length name) 32 && list_all
 
 -- ---- commands
 
--- an opened job has names, and ranges, of which there is one at least
-pub record IsOpening (tag container : Bytes) (ranges : List KeyRange) : Type 0 where
-  pub tag_named : is_container_name tag ≡ true
-  pub container_named : is_container_name container ≡ true
+-- both ends of a range are within a limit on keys
+abbrev pub is_short : ℕ → KeyRange → Bool
+is_short limit range = nat_le (length range.begin) limit && nat_le (length range.end) limit
+
+-- the ranges of a job, of which there is one at least, are within a limit on keys
+pub record AreJobRanges (limit : ℕ) (ranges : List KeyRange) : Type 0 where
   pub some : 0 < length ranges
   pub are_ranges : AreRanges ranges
+  pub short : list_all (is_short limit) ranges ≡ true
+
+-- an opened job has names, and ranges within a limit on keys
+pub record IsOpening (limit : ℕ) (tag container : Bytes) (ranges : List KeyRange) : Type 0 where
+  pub tag_named : is_container_name tag ≡ true
+  pub container_named : is_container_name container ≡ true
+  pub ranges_allowed : AreJobRanges limit ranges
 
 -- a piece is a range of user keys, and its ends are within a limit on keys
 pub record IsPiece (limit : ℕ) (piece : KeyRange) : Type 0 where
@@ -50,14 +65,36 @@ pub record IsPiece (limit : ℕ) (piece : KeyRange) : Type 0 where
   pub begin : length piece.begin ≤ limit
   pub end : length piece.end ≤ limit
 
+-- no version, or one that a text can say
+abbrev pub is_version : Option ℕ → Bool
+is_version None = true
+is_version (Some version) = nat_le version most_number
+
 -- the command may be given, where keys have such a limit
 abbrev pub IsWithin : ℕ → Command → Type 0
-IsWithin limit (Open tag side container ranges) = IsOpening tag container ranges
+IsWithin limit (Open tag side container ranges) = IsOpening limit tag container ranges
 IsWithin limit (Dump tag piece) = (is_container_name tag ≡ true) × IsPiece limit piece
 IsWithin limit (Cut tag) = is_container_name tag ≡ true
 IsWithin limit (Seal tag) = is_container_name tag ≡ true
+IsWithin limit (Backup tag side container continuous ranges) =
+    IsOpening limit tag container ranges
+IsWithin limit (Snapshot tag) = is_container_name tag ≡ true
+IsWithin limit (Discontinue tag) = is_container_name tag ≡ true
 IsWithin limit (Abort tag) = is_container_name tag ≡ true
+IsWithin limit Pause = Unit {0}
+IsWithin limit Resume = Unit {0}
+IsWithin limit (Wait tag) = is_container_name tag ≡ true
 IsWithin limit (Status tag) = is_container_name tag ≡ true
+IsWithin limit (Expire container cutoff wanted force) =
+    (is_container_name container ≡ true) × (nat_le cutoff most_number ≡ true)
+    × (nat_le wanted most_number ≡ true)
+IsWithin limit (Restore tag side container version) =
+    (is_container_name tag ≡ true) × (is_container_name container ≡ true)
+    × (is_version version ≡ true)
+IsWithin limit (Dr tag side ranges) =
+    (is_container_name tag ≡ true) × AreJobRanges limit ranges
+IsWithin limit (Switch tag) = is_container_name tag ≡ true
+IsWithin limit (Lag tag) = is_container_name tag ≡ true
 
 -- the command may be given in a run with such blocks
 abbrev pub IsCommand : ℕ → Command → Type 0
@@ -86,13 +123,19 @@ AreRanges-prop ranges = λ a b i. record {
   few = le_prop a.few b.few i;
 }
 
-pub IsOpening-prop : (tag container : Bytes) (ranges : List KeyRange)
-    → IsProp (IsOpening tag container ranges)
-IsOpening-prop tag container ranges = λ a b i. record {
-  tag_named = Bool-set _ _ a.tag_named b.tag_named i;
-  container_named = Bool-set _ _ a.container_named b.container_named i;
+pub AreJobRanges-prop : (limit : ℕ) (ranges : List KeyRange) → IsProp (AreJobRanges limit ranges)
+AreJobRanges-prop limit ranges = λ a b i. record {
   some = le_prop a.some b.some i;
   are_ranges = AreRanges-prop ranges a.are_ranges b.are_ranges i;
+  short = Bool-set _ _ a.short b.short i;
+}
+
+pub IsOpening-prop : (limit : ℕ) (tag container : Bytes) (ranges : List KeyRange)
+    → IsProp (IsOpening limit tag container ranges)
+IsOpening-prop limit tag container ranges = λ a b i. record {
+  tag_named = Bool-set _ _ a.tag_named b.tag_named i;
+  container_named = Bool-set _ _ a.container_named b.container_named i;
+  ranges_allowed = AreJobRanges-prop limit ranges a.ranges_allowed b.ranges_allowed i;
 }
 
 pub IsPiece-prop : (limit : ℕ) (piece : KeyRange) → IsProp (IsPiece limit piece)
@@ -103,13 +146,38 @@ IsPiece-prop limit piece = λ a b i. record {
   end = le_prop a.end b.end i;
 }
 
+Unit-prop : IsProp (Unit {0})
+Unit-prop = λ a b i. tt
+
 pub IsWithin-prop : (limit : ℕ) (command : Command) → IsProp (IsWithin limit command)
-IsWithin-prop limit (Open tag side container ranges) = IsOpening-prop tag container ranges
+IsWithin-prop limit (Open tag side container ranges) = IsOpening-prop limit tag container ranges
 IsWithin-prop limit (Dump tag piece) = ×_prop (Bool-set _ _) (IsPiece-prop limit piece)
 IsWithin-prop limit (Cut tag) = Bool-set _ _
 IsWithin-prop limit (Seal tag) = Bool-set _ _
+IsWithin-prop limit (Backup tag side container continuous ranges) =
+    IsOpening-prop limit tag container ranges
+IsWithin-prop limit (Snapshot tag) = Bool-set _ _
+IsWithin-prop limit (Discontinue tag) = Bool-set _ _
 IsWithin-prop limit (Abort tag) = Bool-set _ _
+IsWithin-prop limit Pause = Unit-prop
+IsWithin-prop limit Resume = Unit-prop
+IsWithin-prop limit (Wait tag) = Bool-set _ _
 IsWithin-prop limit (Status tag) = Bool-set _ _
+IsWithin-prop limit (Expire container cutoff wanted force) =
+    λ a b i. (
+      Bool-set _ _ a.0 b.0 i,
+      Bool-set _ _ a.1 b.1 i,
+      Bool-set _ _ a.2 b.2 i,
+    )
+IsWithin-prop limit (Restore tag side container version) =
+    λ a b i. (
+      Bool-set _ _ a.0 b.0 i,
+      Bool-set _ _ a.1 b.1 i,
+      Bool-set _ _ a.2 b.2 i,
+    )
+IsWithin-prop limit (Dr tag side ranges) = ×_prop (Bool-set _ _) (AreJobRanges-prop limit ranges)
+IsWithin-prop limit (Switch tag) = Bool-set _ _
+IsWithin-prop limit (Lag tag) = Bool-set _ _
 
 pub IsCommand-prop : (block : ℕ) (command : Command) → IsProp (IsCommand block command)
 IsCommand-prop block command = IsWithin-prop (key_limit_of block) command

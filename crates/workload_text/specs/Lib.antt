@@ -1,8 +1,14 @@
-pub mod Commands
+pub mod Faults
+pub mod Settings
 pub mod Kinds
+pub mod Keywords
+pub mod Allowed
+pub mod Commands
 pub mod Texts
+pub mod Numbers
+pub mod Words
 pub mod Lines
-pub mod Parts
+pub mod Sofar
 pub mod Grammar
 pub mod Spelled
 pub mod inner

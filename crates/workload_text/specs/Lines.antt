@@ -1,250 +1,314 @@
--- What a line says.
-use Rattle.std.specs.Prelude.{ℕ, ◌+◌, max, ◌&&◌, ◌||◌, List, [], ◌∷◌, ◌++◌, length, Option, Some}
-use Rattle.std.specs.Prelude.{None, nat_eq, codes, slice_index, if◌then◌else◌}
+-- What a line says behind its first word, or the first reason why it isn't allowed. A line is
+-- tested for each reason over all of its words before the next reason.
+use Rattle.std.specs.Prelude.{ℕ, not, List, [], ◌∷◌, ◌++◌, length}
+use Rattle.std.specs.Prelude.{codes, Option, Some, None, Ok, nat_le, if◌then◌else◌}
 use Rattle.std.specs.List.{list_all}
-use Rattle.std.specs.Result.{result_ok}
-use Rattle.atomic_ops.specs.Codes.{op_of_word}
+use Rattle.atomic_ops.specs.declared.Op as atomics
 use Rattle.fb_bytes.specs.declared.KeyRange.{KeyRange}
-use Rattle.fb_bytes.specs.declared.RangeFault.{RangeFault}
 use Rattle.fb_bytes.specs.Bytes.{Bytes, is_same}
 use Rattle.fb_bytes.specs.Joining.{joined}
 use Rattle.fb_bytes.specs.Keys.{user_end, is_backwards, is_past_user}
-use Rattle.fb_bytes.specs.Options.{◌>>=◌}
-use Rattle.fb_bytes.specs.RangeFaults.{range_fault}
-use Rattle.fb_bytes.specs.Words.{word_reading}
+use Rattle.fb_bytes.specs.Limits.{most_number}
 use Rattle.mutations.specs.declared.Mutation.TheVariants.{Set, ClearRange, Atomic}
-use Rattle.mutations.specs.declared.TxOp.TheVariants.{Write}
-use Rattle.workload_text.specs.declared.client_script.Side.{Side}
-use Rattle.workload_text.specs.declared.client_script.Side.TheVariants.{Src, Dst}
+use Rattle.mutations.specs.declared.TxOp.TheVariants.{Get, SnapshotGet, Scan, Write}
 use Rattle.workload_text.specs.declared.command.Command.{Command}
-use Rattle.workload_text.specs.declared.command.Command.TheVariants.{Open, Dump, Cut, Seal, Abort}
-use Rattle.workload_text.specs.declared.command.Command.TheVariants.{Status}
-use Rattle.workload_text.specs.declared.schedule.ScheduleLine.TheVariants as event
-use Rattle.workload_text.specs.declared.line.Line.{Line}
-use Rattle.workload_text.specs.declared.line.Line.TheVariants.{Block, Pace, Client, Txn, Op}
-use Rattle.workload_text.specs.declared.line.Line.TheVariants.{Operator, Order, Schedule, Event}
-use Rattle.workload_text.specs.declared.line.Line.TheVariants.{Bad}
-use Rattle.workload_text.specs.Kinds.{command_word}
+use Rattle.workload_text.specs.declared.command.Command.TheVariants as commands
+use Rattle.workload_text.specs.declared.command_kind.CommandKind.{CommandKind}
 use Rattle.workload_text.specs.declared.command_kind.CommandKind.TheVariants as kinds
-use Rattle.workload_text.specs.Commands.{is_container_name}
-use Rattle.workload_text.specs.Texts.{words_of, is_text_byte}
+use Rattle.workload_text.specs.declared.schedule.EventKind.{EventKind}
+use Rattle.workload_text.specs.declared.schedule.EventKind.TheVariants as events
+use Rattle.workload_text.specs.declared.setting.SettingKind.{SettingKind}
+use Rattle.workload_text.specs.declared.setting.Setting.TheVariants as settings
+use Rattle.workload_text.specs.declared.keyword.ReadKind.{ReadKind}
+use Rattle.workload_text.specs.declared.keyword.ReadKind.TheVariants as reads
+use Rattle.workload_text.specs.declared.keyword.WriteKind.{WriteKind}
+use Rattle.workload_text.specs.declared.keyword.WriteKind.TheVariants as writes
+use Rattle.workload_text.specs.declared.keyword.Keyword.{Keyword}
+use Rattle.workload_text.specs.declared.keyword.Keyword.TheVariants as words
+use Rattle.workload_text.specs.declared.line.Line.{Line}
+use Rattle.workload_text.specs.declared.line.Line.TheVariants.{Setting, Client}
+use Rattle.workload_text.specs.declared.line.Line.TheVariants.{Txn, Op, Operator}
+use Rattle.workload_text.specs.declared.line.Line.TheVariants.{Order, Schedule, Event}
+use Rattle.workload_text.specs.declared.text_fault.TextKind.TheVariants as why
+use Rattle.workload_text.specs.Commands.{is_short}
+use Rattle.workload_text.specs.Faults.{Read, refuse, where_so}
+use Rattle.workload_text.specs.Numbers.{number_of, within}
+use Rattle.workload_text.specs.Settings.{is_allowed}
+use Rattle.workload_text.specs.Words.{◌>>=◌, bytes_of, name_of, side_of, mode_of, no_words}
+use Rattle.workload_text.specs.Words.{one_word}
+use Rattle.workload_text.specs.Words.{next_word, two_words, three_words, four_words, are_paired}
+use Rattle.workload_text.specs.Words.{any_number, two_numbers, range_of}
 
--- ---- words
+-- ---- settings
 
--- the bytes that a word spells, if it spells some
-abbrev pub bytes_of : Bytes → Option Bytes
-bytes_of word = result_ok (word_reading word)
+abbrev pub if_allowed : SettingKind → ℕ → Read Line
+if_allowed kind n =
+    where_so why.Range (is_allowed kind n) (Ok (Setting (settings.Number kind n)))
 
--- the name that a word is, if it is one
-abbrev pub name_of : Bytes → Option Bytes
-name_of word = if is_container_name word then Some word else None
+abbrev pub setting_said : SettingKind → List Bytes → Read Line
+setting_said kind list = do
+  word ← one_word list
+  n ← any_number word
+  if_allowed kind n
 
--- the database of a word, if it names one
-abbrev pub side_of : Bytes → Option Side
-side_of word =
-    if is_same word (codes "src") then Some Src
-    else if is_same word (codes "dst") then Some Dst
-    else None
+-- the death of an agent after a turn, from 1 on
+abbrev pub death_said : List Bytes → Read Line
+death_said list = do
+  two ← two_words list
+  a ← number_of two.0
+  t ← number_of two.1
+  agent ← within 0 most_number a
+  turn ← within 1 most_number t
+  Ok (Setting (settings.Death agent turn))
 
--- the block of a word, if it is one of the four
-abbrev pub block_of : Bytes → Option ℕ
-block_of word =
-    if is_same word (codes "256") then Some 256
-    else if is_same word (codes "4096") then Some 4096
-    else if is_same word (codes "262144") then Some 262144
-    else if is_same word (codes "1048576") then Some 1048576
-    else None
+-- the stall of an agent after a turn, from 1 on, for at most 1,000,000 turns
+abbrev pub stall_said : List Bytes → Read Line
+stall_said list = do
+  three ← three_words list
+  a ← number_of three.0
+  t ← number_of three.1
+  m ← number_of three.2
+  agent ← within 0 most_number a
+  turn ← within 1 most_number t
+  turns ← within 0 1000000 m
+  Ok (Setting (settings.Stall agent turn turns))
 
--- ---- ranges
+-- ---- clients
 
--- the range that two words spell
-abbrev pub range_of : Bytes → Bytes → Option KeyRange
-range_of begin end = do
-  b ← bytes_of begin
-  e ← bytes_of end
-  Some (record { begin = b; end = e })
+-- a client on a database; its number is the next one, or the line has no place here
+abbrev pub client_said : List Bytes → Read Line
+client_said list = do
+  two ← two_words list
+  n ← any_number two.0
+  side ← side_of two.1
+  Ok (Client side)
 
--- the ranges that pairs of words spell
-abbrev pub list_of : List Bytes → Option (List KeyRange)
-list_of [] = Some []
-list_of (begin ∷ []) = None
-list_of (begin ∷ end ∷ words) = do
+-- the range that two words spell, where its begin is below its end
+abbrev pub forward_range : Bytes → Bytes → Read KeyRange
+forward_range begin end = do
   range ← range_of begin end
-  list ← list_of words
-  Some (range ∷ list)
+  where_so why.Backwards (not (is_backwards range)) (Ok range)
 
--- the whole user space
+abbrev pub scan_said : List Bytes → Read Line
+scan_said list = do
+  three ← three_words list
+  n ← number_of three.2
+  limit ← within 1 1000 n
+  range ← forward_range three.0 three.1
+  Ok (Op (Scan range limit))
+
+abbrev pub read_said : ReadKind → List Bytes → Read Line
+read_said reads.Get list = do
+  word ← one_word list
+  key ← bytes_of word
+  Ok (Op (Get key))
+read_said reads.SnapshotGet list = do
+  word ← one_word list
+  key ← bytes_of word
+  Ok (Op (SnapshotGet key))
+read_said reads.Scan list = scan_said list
+
+abbrev pub set_said : List Bytes → Read Line
+set_said list = do
+  two ← two_words list
+  key ← bytes_of two.0
+  value ← bytes_of two.1
+  Ok (Op (Write (Set key value)))
+
+-- A clear of one key ends at that key and a byte 0.
+abbrev pub clear_said : List Bytes → Read Line
+clear_said list = do
+  word ← one_word list
+  key ← bytes_of word
+  Ok (Op (Write (ClearRange key (key ++ 0 ∷ []))))
+
+abbrev pub clear_range_said : List Bytes → Read Line
+clear_range_said list = do
+  two ← two_words list
+  range ← forward_range two.0 two.1
+  Ok (Op (Write (ClearRange range.begin range.end)))
+
+abbrev pub atomic_said : atomics.Op → List Bytes → Read Line
+atomic_said op list = do
+  two ← two_words list
+  key ← bytes_of two.0
+  param ← bytes_of two.1
+  Ok (Op (Write (Atomic op key param)))
+
+abbrev pub write_said : WriteKind → List Bytes → Read Line
+write_said writes.Set list = set_said list
+write_said writes.Clear list = clear_said list
+write_said writes.ClearRange list = clear_range_said list
+write_said (writes.Atomic op) list = atomic_said op list
+
+-- ---- ranges of the operator's
+
+-- the ranges that words spell, two for each
+abbrev pub list_of : List Bytes → Read (List KeyRange)
+list_of [] = Ok []
+list_of (begin ∷ []) = refuse why.Count
+list_of (begin ∷ end ∷ list) = do
+  range ← range_of begin end
+  ranges ← list_of list
+  Ok (range ∷ ranges)
+
 abbrev pub whole_space : KeyRange
 whole_space = record { begin = []; end = user_end }
 
--- a list without ranges stands for the whole user space
+-- no ranges stand for the whole user space
 abbrev pub or_whole_space : List KeyRange → List KeyRange
 or_whole_space [] = whole_space ∷ []
-or_whole_space list = list
+or_whole_space ranges = ranges
 
-abbrev pub unless_fault : Option RangeFault → List KeyRange → Option (List KeyRange)
-unless_fault (Some fault) ranges = None
-unless_fault None ranges = Some ranges
+-- ranges of the operator's: within the limit on keys, forward, of user keys; at most so many
+abbrev pub allowed_ranges : ℕ → ℕ → List KeyRange → Read (List KeyRange)
+allowed_ranges limit most ranges =
+    where_so why.Long (list_all (is_short limit) ranges)
+    (where_so why.Backwards (list_all (λ range. not (is_backwards range)) ranges)
+    (where_so why.Past (list_all (λ range. not (is_past_user range)) ranges)
+    (where_so why.Many (nat_le (length ranges) most) (Ok ranges))))
 
--- the ranges of a job, joined, if the list has no fault
-abbrev pub ranges_of : List KeyRange → Option (List KeyRange)
-ranges_of list = unless_fault (range_fault list) (joined list)
+-- the ranges of a job, of which there are at most 1,000, joined
+abbrev pub job_ranges : ℕ → List Bytes → Read (List KeyRange)
+job_ranges limit list = do
+  ranges ← list_of list
+  allowed ← allowed_ranges limit 1000 (or_whole_space ranges)
+  Ok (joined allowed)
 
--- the length of the longer end
-abbrev pub longest_of : KeyRange → ℕ
-longest_of range = max (length range.begin) (length range.end)
+-- ---- commands
 
--- the length of the longest end in a list
-abbrev pub longest_among : List KeyRange → ℕ
-longest_among [] = 0
-longest_among (range ∷ list) = max (longest_of range) (longest_among list)
+-- the tag of a command with nothing else
+abbrev pub tag_said : List Bytes → Read Bytes
+tag_said list = one_word list >>= name_of
 
--- ---- lines of a transaction
+abbrev pub tagged : (Bytes → Command) → List Bytes → Read Line
+tagged command list = do
+  tag ← tag_said list
+  Ok (Order (command tag))
 
-abbrev pub or_bad : Option Line → Line
-or_bad None = Bad
-or_bad (Some line) = line
+abbrev pub dump_said : ℕ → List Bytes → Read Line
+dump_said limit list = do
+  three ← three_words list
+  tag ← name_of three.0
+  piece ← range_of three.1 three.2
+  allowed ← allowed_ranges limit 1 (piece ∷ [])
+  Ok (Order (commands.Dump tag piece))
 
-abbrev pub set_of : Bytes → Bytes → Option Line
-set_of key value = do
-  k ← bytes_of key
-  v ← bytes_of value
-  Some (Op (Write (Set k v)))
+abbrev pub open_said : ℕ → List Bytes → Read Line
+open_said limit list = do
+  t ← next_word list
+  d ← next_word t.1
+  c ← next_word d.1
+  where_so why.Count (are_paired c.1) do
+    side ← side_of d.0
+    tag ← name_of t.0
+    container ← name_of c.0
+    ranges ← job_ranges limit c.1
+    Ok (Order (commands.Open tag side container ranges))
 
--- a clear of one key ends at that key and a byte 0
-abbrev pub clear_of : Bytes → Option Line
-clear_of key = do
-  k ← bytes_of key
-  Some (Op (Write (ClearRange k (k ++ 0 ∷ []))))
+abbrev pub backup_said : ℕ → List Bytes → Read Line
+backup_said limit list = do
+  t ← next_word list
+  d ← next_word t.1
+  c ← next_word d.1
+  m ← next_word c.1
+  where_so why.Count (are_paired m.1) do
+    side ← side_of d.0
+    continuous ← mode_of (codes "continuous") (codes "once") m.0
+    tag ← name_of t.0
+    container ← name_of c.0
+    ranges ← job_ranges limit m.1
+    Ok (Order (commands.Backup tag side container continuous ranges))
 
--- a clear of a range, whose begin is below its end
-abbrev pub clear_range_of : Bytes → Bytes → Option Line
-clear_range_of begin end = do
-  range ← range_of begin end
-  if is_backwards range then None else Some (Op (Write (ClearRange range.begin range.end)))
+abbrev pub dr_said : ℕ → List Bytes → Read Line
+dr_said limit list = do
+  t ← next_word list
+  d ← next_word t.1
+  where_so why.Count (are_paired d.1) do
+    side ← side_of d.0
+    tag ← name_of t.0
+    ranges ← job_ranges limit d.1
+    Ok (Order (commands.Dr tag side ranges))
 
-abbrev pub atomic_of : Bytes → Bytes → Bytes → Option Line
-atomic_of word key param = do
-  op ← op_of_word word
-  k ← bytes_of key
-  p ← bytes_of param
-  Some (Op (Write (Atomic op k p)))
+abbrev pub expire_said : List Bytes → Read Line
+expire_said list = do
+  four ← four_words list
+  numbers ← two_numbers four.1 four.2
+  force ← mode_of (codes "force") (codes "safe") four.3
+  container ← name_of four.0
+  Ok (Order (commands.Expire container numbers.0 numbers.1 force))
 
--- ---- other lines
+-- `latest` is no number
+abbrev pub version_of : Bytes → Read (Option ℕ)
+version_of word =
+    if is_same word (codes "latest") then Ok None else do
+      n ← any_number word
+      Ok (Some n)
 
-abbrev pub block_line_of : Bytes → Option Line
-block_line_of word = do
-  block ← block_of word
-  Some (Block block)
+abbrev pub restore_said : List Bytes → Read Line
+restore_said list = do
+  four ← four_words list
+  version ← version_of four.3
+  side ← side_of four.1
+  tag ← name_of four.0
+  container ← name_of four.2
+  Ok (Order (commands.Restore tag side container version))
 
--- the one client, on a database
-abbrev pub client_of : Bytes → Bytes → Option Line
-client_of number db =
-    if is_same number (codes "1") then side_of db >>= (λ side. Some (Client side)) else None
+abbrev pub command_said : ℕ → CommandKind → List Bytes → Read Line
+command_said limit kinds.Open list = open_said limit list
+command_said limit kinds.Dump list = dump_said limit list
+command_said limit kinds.Cut list = tagged commands.Cut list
+command_said limit kinds.Seal list = tagged commands.Seal list
+command_said limit kinds.Backup list = backup_said limit list
+command_said limit kinds.Snapshot list = tagged commands.Snapshot list
+command_said limit kinds.Discontinue list = tagged commands.Discontinue list
+command_said limit kinds.Abort list = tagged commands.Abort list
+command_said limit kinds.Pause list = no_words list (Order commands.Pause)
+command_said limit kinds.Resume list = no_words list (Order commands.Resume)
+command_said limit kinds.Wait list = tagged commands.Wait list
+command_said limit kinds.Status list = tagged commands.Status list
+command_said limit kinds.Expire list = expire_said list
+command_said limit kinds.Restore list = restore_said list
+command_said limit kinds.Dr list = dr_said limit list
+command_said limit kinds.Switch list = tagged commands.Switch list
+command_said limit kinds.Lag list = tagged commands.Lag list
 
--- the commands that have a tag and nothing else
-abbrev pub tag_command : Bytes → Bytes → Option Command
-tag_command word tag =
-    if is_same word (command_word kinds.Cut) then Some (Cut tag)
-    else if is_same word (command_word kinds.Seal) then Some (Seal tag)
-    else if is_same word (command_word kinds.Abort) then Some (Abort tag)
-    else if is_same word (command_word kinds.Status) then Some (Status tag)
-    else None
+-- ---- events
 
-abbrev pub tag_order_of : Bytes → Bytes → Option Line
-tag_order_of word tag = do
-  name ← name_of tag
-  command ← tag_command word name
-  Some (Order command 0)
+abbrev pub event_alone : EventKind → List Bytes → Read Line
+event_alone kind list = no_words list (Event kind 0 0)
 
--- a piece is one range of user keys
-abbrev pub dump_of : Bytes → Bytes → Bytes → Option Line
-dump_of tag begin end = do
-  name ← name_of tag
-  piece ← range_of begin end
-  if is_backwards piece || is_past_user piece then None
-      else Some (Order (Dump name piece) (longest_of piece))
+abbrev pub event_numbered : EventKind → List Bytes → Read Line
+event_numbered kind list = do
+  word ← one_word list
+  n ← any_number word
+  Ok (Event kind n 0)
 
-abbrev pub opening : Bytes → Side → Bytes → List KeyRange → Option Line
-opening tag side container list = do
-  ranges ← ranges_of list
-  Some (Order (Open tag side container ranges) (longest_among list))
+abbrev pub claim_said : List Bytes → Read Line
+claim_said list = do
+  two ← two_words list
+  numbers ← two_numbers two.0 two.1
+  Ok (Event events.Claim numbers.0 numbers.1)
 
-abbrev pub open_of : Bytes → Bytes → Bytes → List Bytes → Option Line
-open_of tag db container words = do
-  name ← name_of tag
-  side ← side_of db
-  folder ← name_of container
-  list ← list_of words
-  opening name side folder (or_whole_space list)
+-- the event has no number, or two; any other has one
+abbrev pub event_said : EventKind → List Bytes → Read Line
+event_said events.Op list = event_alone events.Op list
+event_said events.Drain list = event_alone events.Drain list
+event_said events.Claim list = claim_said list
+event_said kind list = event_numbered kind list
 
--- ---- what words say
+-- ---- lines
 
-abbrev pub one_word : Bytes → Line
-one_word word =
-    if is_same word (codes "txn") then Txn
-    else if is_same word (codes "op") then Event event.Op
-    else if is_same word (codes "operator") then Operator
-    else if is_same word (codes "schedule") then Schedule
-    else Bad
-
-abbrev pub two_words : Bytes → Bytes → Line
-two_words word second =
-    if is_same word (codes "clear") then or_bad (clear_of second)
-    else if is_same word (codes "block") then or_bad (block_line_of second)
-    else if is_same word (codes "pace") && is_same second (codes "10") then Pace
-    else if is_same word (codes "begin") && is_same second (codes "1") then Event (event.Begin 1)
-    else if is_same word (codes "commit") && is_same second (codes "1") then Event (event.Commit 1)
-    else or_bad (tag_order_of word second)
-
-abbrev pub three_words : Bytes → Bytes → Bytes → Line
-three_words word second third =
-    if is_same word (codes "set") then or_bad (set_of second third)
-    else if is_same word (codes "clearrange") then or_bad (clear_range_of second third)
-    else if is_same word (codes "client") then or_bad (client_of second third)
-    else or_bad (atomic_of word second third)
-
-abbrev pub four_words : Bytes → Bytes → Bytes → Bytes → Line
-four_words word second third fourth =
-    if is_same word (command_word kinds.Open) then or_bad (open_of second third fourth [])
-    else if is_same word (command_word kinds.Dump) then or_bad (dump_of second third fourth)
-    else Bad
-
-abbrev pub more_words : Bytes → Bytes → Bytes → Bytes → List Bytes → Line
-more_words word second third fourth words =
-    if is_same word (command_word kinds.Open) then or_bad (open_of second third fourth words)
-    else Bad
-
-abbrev pub words_say : Bytes → List Bytes → Line
-words_say word [] = one_word word
-words_say word (second ∷ []) = two_words word second
-words_say word (second ∷ third ∷ []) = three_words word second third
-words_say word (second ∷ third ∷ fourth ∷ []) = four_words word second third fourth
-words_say word (second ∷ third ∷ fourth ∷ fifth ∷ words) =
-    more_words word second third fourth (fifth ∷ words)
-
--- a line without words says nothing, nor does one whose first word begins with `#`
-abbrev pub said_by : List Bytes → Option Line
-said_by [] = None
-said_by (word ∷ words) =
-    if nat_eq (slice_index word 0) 35 then None else Some (words_say word words)
-
--- what a line says, if it says something
-abbrev pub said : Bytes → Option Line
-said line = if list_all is_text_byte line then said_by (words_of line) else Some Bad
-
--- ---- the lines of a text
-
--- a line that says something, and its number in the text
-pub record Numbered : Type 0 where
-  pub number : ℕ
-  pub line : Line
-
-abbrev pub with_line : ℕ → Option Line → List Numbered → List Numbered
-with_line number None lines = lines
-with_line number (Some line) lines = record { number = number; line = line } ∷ lines
-
--- the lines that say something, numbered on from a number
-abbrev pub numbered : ℕ → List Bytes → List Numbered
-numbered number [] = []
-numbered number (line ∷ lines) = with_line number (said line) (numbered (number + 1) lines)
+-- what a keyword says with the words behind it, where keys of the operator's have such a limit
+abbrev pub said : ℕ → Keyword → List Bytes → Read Line
+said limit (words.Setting kind) list = setting_said kind list
+said limit words.Death list = death_said list
+said limit words.Stall list = stall_said list
+said limit words.Client list = client_said list
+said limit words.Txn list = no_words list Txn
+said limit (words.Read kind) list = read_said kind list
+said limit (words.Write kind) list = write_said kind list
+said limit words.Operator list = no_words list Operator
+said limit (words.Command kind) list = command_said limit kind list
+said limit words.Schedule list = no_words list Schedule
+said limit (words.Event kind) list = event_said kind list

@@ -1,75 +1,117 @@
 -- A second reading of the same texts: the lines that say something are those of the workload.
-use Rattle.std.specs.Prelude.{◌≡◌, ◌≤◌, ℕ, false, List, [], ◌∷◌, ◌++◌, map, length, ◌⊎◌}
-use Rattle.std.specs.List.{flat_map, AllByRecursion}
+use Rattle.std.specs.Prelude.{◌≡◌, ◌≤◌, ℕ, Bool, true, false, not}
+use Rattle.std.specs.Prelude.{◌&&◌, List, [], ◌∷◌, ◌++◌, map, length}
+use Rattle.std.specs.Prelude.{Some, Ok, nat_le, if◌then◌else◌}
+use Rattle.std.specs.List.{flat_map, list_all}
 use Rattle.block_frame.specs.Profiles.{key_limit_of}
 use Rattle.fb_bytes.specs.Bytes.{Bytes}
 use Rattle.mutations.specs.declared.TxOp.{TxOp}
 use Rattle.workload_text.specs.declared.client_script.ClientScript.{ClientScript}
 use Rattle.workload_text.specs.declared.command.Command.{Command}
 use Rattle.workload_text.specs.declared.schedule.ScheduleLine.{ScheduleLine}
+use Rattle.workload_text.specs.declared.setting.Setting.{Setting}
+use Rattle.workload_text.specs.declared.keyword.Keyword.{Keyword}
+use Rattle.workload_text.specs.declared.keyword.Keyword.TheVariants as words
 use Rattle.workload_text.specs.declared.line.Line.{Line}
-use Rattle.workload_text.specs.declared.line.Line.TheVariants.{Block, Pace, Client, Txn, Op}
-use Rattle.workload_text.specs.declared.line.Line.TheVariants.{Operator, Order, Schedule, Event}
-use Rattle.workload_text.specs.Texts.{lines_of}
-use Rattle.workload_text.specs.Lines.{Numbered, numbered}
-use Rattle.workload_text.specs.Parts.{is_refused}
+use Rattle.workload_text.specs.declared.line.Line.TheVariants as lines
+use Rattle.workload_text.specs.Allowed.{are_clients, are_events}
 use Rattle.workload_text.specs.Grammar.{Built, most_bytes}
+use Rattle.workload_text.specs.Keywords.{keyword_of}
+use Rattle.workload_text.specs.Kinds.{event_kind_of, numbers_of}
+use Rattle.workload_text.specs.Lines.{said}
+use Rattle.workload_text.specs.Settings.{set_by, comes_in, has_agent}
+use Rattle.workload_text.specs.Sofar.{is_comment, is_first_no_other}
+use Rattle.workload_text.specs.Texts.{lines_of, words_of, is_text_byte}
 
--- the lines of a text that say something
-abbrev pub said_lines : Bytes → List Line
-said_lines text = map (λ (l : Numbered). l.line) (numbered 1 (lines_of text))
+-- ---- lines that say something
 
-abbrev pub txn_lines : List TxOp → List Line
-txn_lines ops = Txn ∷ map Op ops
+-- what a line says, and the number that it spells where it begins a client
+abbrev pub Item : Type 0
+Item = Line × ℕ
 
-abbrev pub client_lines : ClientScript → List Line
-client_lines client = Client client.side ∷ flat_map txn_lines client.txns
+-- a client's line spells its number
+abbrev pub spells : Keyword → List Bytes → ℕ → Bool
+spells words.Client list number = is_first_no_other number list
+spells keyword list number = true
 
--- a command, and the length of the longest key in its line
-pub record Asked : Type 0 where
-  pub command : Command
-  pub longest : ℕ
+-- the words say this, where keys of the operator's have such a limit
+abbrev pub IsSaid : ℕ → List Bytes → Item → Type 0
+IsSaid limit [] item = ⊥
+IsSaid limit (word ∷ list) item =
+    (k : Keyword) × (keyword_of word ≡ Some k) × (said limit k list ≡ Ok item.0)
+    × (spells k list item.1 ≡ true)
 
--- the commands' lines, in which no key is longer than the block allows
-pub record AreOrders (block : ℕ) (operator : List Command) (lines : List Line) : Type 0 where
-  pub asked : List Asked
-  pub commands : operator ≡ map (λ (a : Asked). a.command) asked
-  pub short : AllByRecursion (λ (a : Asked). a.longest ≤ key_limit_of block) asked
-  pub spelled : lines ≡ Operator ∷ map (λ (a : Asked). Order a.command a.longest) asked
+-- each of the lines says one, in their order
+abbrev pub AreSaid : ℕ → List (List Bytes) → List Item → Type 0
+AreSaid limit [] [] = Unit {0}
+AreSaid limit [] (item ∷ items) = ⊥
+AreSaid limit (line ∷ lines) [] = ⊥
+AreSaid limit (line ∷ lines) (item ∷ items) = IsSaid limit line item × AreSaid limit lines items
 
--- The line `operator` may be missing where there are no commands.
-abbrev pub AreOperatorLines : ℕ → List Command → List Line → Type 0
-AreOperatorLines block operator lines =
-    ((lines ≡ []) × (operator ≡ [])) ⊎ AreOrders block operator lines
+-- the words say something
+abbrev pub says_something : List Bytes → Bool
+says_something [] = false
+says_something (word ∷ list) = not (is_comment word)
 
--- The line `schedule` may be missing where there are no events.
-abbrev pub AreScheduleLines : List ScheduleLine → List Line → Type 0
-AreScheduleLines schedule lines =
-    ((lines ≡ []) × (schedule ≡ [])) ⊎ (lines ≡ Schedule ∷ map Event schedule)
+-- the words of the lines that say something
+abbrev pub speaking : List Bytes → List (List Bytes)
+speaking [] = []
+speaking (line ∷ lines) =
+    if says_something (words_of line) then words_of line ∷ speaking lines else speaking lines
 
--- a transaction within the limits
-pub record IsAllowed (block : ℕ) (ops : List TxOp) : Type 0 where
-  pub few : length ops ≤ 10000
-  pub commits : is_refused block ops ≡ false
+-- ---- the lines of a workload
 
--- a client that may stand in a text: number 1, on either database, and within the limits
-pub record IsFirst (block : ℕ) (client : ClientScript) : Type 0 where
-  pub number : client.number ≡ 1
-  pub few : length client.txns ≤ 100000
-  pub allowed : AllByRecursion (IsAllowed block) client.txns
+-- settings that may come one after the other, behind those before them
+abbrev pub are_set : List Setting → List Setting → Bool
+are_set before [] = true
+are_set before (setting ∷ settings) =
+    not (comes_in setting before) && has_agent before setting
+    && are_set (before ++ setting ∷ []) settings
 
--- the text says this workload, and nothing else
-pub record IsTextOf (text : Bytes) (w : Built) : Type 0 where
+abbrev pub setting_items : List Setting → List Item
+setting_items settings = map (λ setting. (lines.Setting setting, 0)) settings
+
+abbrev pub txn_items : List TxOp → List Item
+txn_items ops = (lines.Txn, 0) ∷ map (λ op. (lines.Op op, 0)) ops
+
+abbrev pub client_items : ClientScript → List Item
+client_items script = (lines.Client script.side, script.number) ∷ flat_map txn_items script.txns
+
+-- the operator's line may be missing where there are no commands
+abbrev pub operator_items : Bool → List Command → List Item
+operator_items true operator =
+    (lines.Operator, 0) ∷ map (λ command. (lines.Order command, 0)) operator
+operator_items false operator = map (λ command. (lines.Order command, 0)) operator
+
+abbrev pub event_item : ScheduleLine → Item
+event_item event =
+    (lines.Event (event_kind_of event) (numbers_of event).0 (numbers_of event).1, 0)
+
+-- the schedule's line may be missing where there are no events
+abbrev pub schedule_items : Bool → List ScheduleLine → List Item
+schedule_items true schedule = (lines.Schedule, 0) ∷ map event_item schedule
+schedule_items false schedule = map event_item schedule
+
+-- a part without its line has no lines
+abbrev pub BegunFor : {A : Type 0} → Bool → List A → Type 0
+BegunFor true items = Unit {0}
+BegunFor false items = items ≡ []
+
+-- the text says this; in a run it has no schedule
+pub record IsTextOf (run : Bool) (text : Bytes) (w : Built) : Type 0 where
   pub short : length text ≤ most_bytes
-  pub pace : w.pace ≡ 10
-  pub one : length w.clients ≤ 1
-  pub clients : AllByRecursion (IsFirst w.block) w.clients
-  pub few_commands : length w.operator ≤ 1000
-  pub operator_lines : List Line
-  pub operator : AreOperatorLines w.block w.operator operator_lines
-  pub few : length w.schedule ≤ 1000000
-  pub schedule_lines : List Line
-  pub schedule : AreScheduleLines w.schedule schedule_lines
-  pub lines : said_lines text
-      ≡ Block w.block ∷ Pace ∷ (flat_map client_lines w.clients
-      ++ (operator_lines ++ schedule_lines))
+  pub bytes : list_all (λ line. list_all is_text_byte line) (lines_of text) ≡ true
+  pub settings : List Setting
+  pub settings_allowed : are_set [] settings ≡ true
+  pub set : w.settings ≡ set_by settings
+  pub commanded : Bool
+  pub commands_begun : BegunFor commanded w.operator
+  pub scheduled : Bool
+  pub events_begun : BegunFor scheduled w.schedule
+  pub played : (run && scheduled) ≡ false
+  pub said : AreSaid (key_limit_of w.settings.block) (speaking (lines_of text))
+      (setting_items settings ++ flat_map client_items w.clients
+      ++ operator_items commanded w.operator ++ schedule_items scheduled w.schedule)
+  pub clients_allowed : are_clients w.clients ≡ true
+  pub few_commands : nat_le (length w.operator) 1000 ≡ true
+  pub events_allowed : are_events (length w.clients) w.settings.agents w.schedule ≡ true

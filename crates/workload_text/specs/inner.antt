@@ -1,4 +1,3 @@
 -- Definitions that only private clauses cite.
-pub mod Reader
-pub mod Scripts
-pub mod Lines
+pub mod Ready
+pub mod Seen

@@ -1,24 +1,27 @@
-ghost use Rattle.std.specs.Prelude.{◌≡◌, true, [], IfOk, OnOk};
-ghost use Rattle.block_frame.specs.Profiles.{key_limit_of, limit_of};
-ghost use Rattle.workload_text.specs.declared.reader.Place.TheVariants as places;
-ghost use Rattle.workload_text.specs.Commands.{IsWithin};
-ghost use Rattle.workload_text.specs.inner.Lines.{IsSound};
-ghost use Rattle.workload_text.specs.inner.Scripts.{are_numbered};
-ghost use Rattle.workload_text.specs.Parts.{is_refused};
-ghost use Rattle.workload_text.specs.Grammar.{what, clients_of, Gives};
-ghost use Rattle.workload_text.specs.inner.Reader as spec;
-ghost use Rattle.workload_text.specs.inner.Reader.{IsReady};
+ghost use Rattle.std.specs.Prelude.{◌≡◌, ◌≤◌, true, [], IfOk, OnOk, nat_le};
+ghost use Rattle.fb_bytes.specs.Results.{GivesBut};
+ghost use Rattle.workload_text.specs.declared.line_fault.LineFault.TheVariants.{NoMemory};
+ghost use Rattle.workload_text.specs.declared.line.Line.TheVariants as lines;
+ghost use Rattle.workload_text.specs.Texts.{words_of};
+ghost use Rattle.workload_text.specs.Sofar as spec;
+ghost use Rattle.workload_text.specs.inner.Ready.{IsReady};
+ghost use Rattle.workload_text.specs.inner.Seen.{sofar};
 
-use crate::line::Line;
-use crate::{ClientScript, Command, ScheduleLine, Settings, Side, TextFault, Workload};
-use block_frame::Profile;
+use crate::keyword::Keyword;
+use crate::line::{Line, said};
+use crate::line_fault::LineFault;
+use crate::numbers::{is_decimal, value_of};
+use crate::part::Part;
+use crate::pieces::first_word;
+use crate::schedule::event_with;
+use crate::setting::{comes_in, has_agent, number_for};
+use crate::{ClientScript, Command, EventKind, ScheduleLine, Setting, SettingKind, Side, TextKind};
 use fb_bytes::{Seq, SharedSeq};
-use mutations::{TxOp, TxOps, fault_of};
+use mutations::{TxOp, TxOps};
 use std::alloc::{AllocError, Global};
 use std::mem;
 
-/// The pace of the texts that are built.
-const PACE: u64 = 10;
+const MOST_CLIENTS: usize = 64;
 
 const MOST_TXNS: usize = 100_000;
 
@@ -28,47 +31,32 @@ const MOST_COMMANDS: usize = 1_000;
 
 const MOST_EVENTS: usize = 1_000_000;
 
-/// What the last line that said something was.
-#[derive(Clone, Copy, Debug)]
-pub enum Place {
-    /// There was none.
-    Start,
-    Block,
-    Pace,
-    /// The client's first line, or a transaction that is complete.
-    Client,
-    /// A line of a transaction that may go on, and that began in this line.
-    Txn { line: u64 },
-    /// A line of the operator.
-    Operator,
-    /// A line of the schedule.
-    Schedule,
-}
-
 /// What the lines so far say.
 #[derive(Debug, Drop)]
 pub struct Reader {
-    place: Place,
-    /// The block of the first line. Before it has come, it says nothing.
-    block: u32,
-    /// The client's database, where there is a client.
-    client: Option<Side>,
-    txns: Seq<TxOps>,
+    pub part: Part,
+    pub settings: Seq<Setting>,
+    /// The clients that are complete.
+    pub clients: Seq<ClientScript>,
+    /// The database of the client that may go on.
+    pub side: Side,
+    /// Its complete transactions.
+    pub txns: Seq<TxOps>,
     /// The operations of the transaction that may go on.
-    ops: TxOps,
-    operator: Seq<Command>,
-    schedule: Seq<ScheduleLine>,
+    pub ops: TxOps,
+    pub operator: Seq<Command>,
+    pub schedule: Seq<ScheduleLine>,
 }
 
 impl Reader {
     pub fn new(alloc: Global) -> Self
-        ensures start { result ≡ spec.at_start }
-        ensures ready { IsReady result }
+        ensures { sofar result ≡ spec.at_start }
     {
         Reader {
-            place: Place::Start,
-            block: 256,
-            client: None,
+            part: Part::Settings,
+            settings: Seq::new(alloc),
+            clients: Seq::new(alloc),
+            side: Side::Src,
             txns: Seq::new(alloc),
             ops: TxOps::new(alloc),
             operator: Seq::new(alloc),
@@ -76,121 +64,204 @@ impl Reader {
         }
     }
 
-    /// Takes the next line. After an `Err` the reader is of no use.
-    pub fn take(&mut self, alloc: Global, number: u64, line: Line) -> Result<(), TextFault>
-        requires line { IsSound line }
-        requires ready { IsReady self.old }
-        ensures takes { Gives (λ _. self.new) result (spec.with_line number line self.old) }
-        ensures ready { OnOk result (IsReady self.new) }
+    /// Takes a line of that first word. After an `Err` the reader is of no use.
+    pub fn take_keyword(
+        &mut self,
+        alloc: Global,
+        run: bool,
+        keyword: Keyword,
+        words: &[u8],
+    ) -> Result<(), LineFault>
+        requires { IsReady (sofar self.old) }
+        ensures { GivesBut NoMemory (λ _. sofar self.new) result
+            (spec.with_keyword run (sofar self.old) keyword (words_of words.now)) }
+    {
+        if !self.part.stands(keyword) || !self.is_next(keyword, words) {
+            return Err(LineFault::Refused(TextKind::Place));
+        }
+        if is_scheduled(run, keyword) {
+            return Err(LineFault::Refused(TextKind::Schedule));
+        }
+        let line = said(alloc, self.settings.as_slice(), keyword, words)?;
+        self.take(alloc, line)
+    }
+
+    /// How many clients there are, with the one that may go on.
+    fn clients_in(&self) -> usize
+        requires { IsReady (sofar self.now) }
+        ensures { result ≡ spec.clients_in (sofar self.now) }
+    {
+        if self.part.in_client() {
+            self.clients.len() + 1
+        } else {
+            self.clients.len()
+        }
+    }
+
+    /// Whether a client's number, where its line has one, is the next.
+    fn is_next(&self, keyword: Keyword, words: &[u8]) -> bool
+        requires { IsReady (sofar self.now) }
+        ensures { result ≡ spec.is_next (sofar self.now) keyword (words_of words.now) }
+    {
+        match keyword {
+            Keyword::Client => is_first_no_other(self.clients_in() as u64 + 1, words),
+            _ => true,
+        }
+    }
+
+    fn take(&mut self, alloc: Global, line: Line) -> Result<(), LineFault>
+        requires { IsReady (sofar self.old) }
+        ensures { GivesBut NoMemory (λ _. sofar self.new) result
+            (spec.with_line (sofar self.old) line) }
     {
         match line {
-            Line::Op(op) => self.take_op(number, op),
-            line => {
-                self.close(alloc)?;
-                self.take_part(number, line)
-            }
+            Line::Setting(setting) => self.take_setting(setting),
+            Line::Client(side) => self.take_client(alloc, side),
+            Line::Txn => self.take_txn(alloc),
+            Line::Op(op) => self.take_op(op),
+            Line::Operator => self.take_part(alloc, Part::Operator),
+            Line::Order(command) => self.take_command(command),
+            Line::Schedule => self.take_part(alloc, Part::Schedule),
+            Line::Event { kind, n, m } => self.take_event(kind, n, m),
         }
     }
 
-    fn take_op(&mut self, number: u64, op: TxOp) -> Result<(), TextFault>
-        requires { IsReady self.old }
-        ensures takes { Gives (λ _. self.new) result
-            (spec.with_op number op self.old.place self.old) }
-        ensures ready { OnOk result (IsReady self.new) }
+    fn take_setting(&mut self, setting: Setting) -> Result<(), LineFault>
+        ensures { GivesBut NoMemory (λ _. sofar self.new) result
+            (spec.with_line (sofar self.old) (lines.Setting setting)) }
     {
-        let Place::Txn { line } = self.place else {
-            return Err(TextFault::NotBuilt { line: number });
-        };
-        if self.ops.len() < MOST_OPS {
-            self.ops.push(op)?;
-            return Ok(());
+        if comes_in(&setting, self.settings.as_slice()) {
+            return Err(LineFault::Refused(TextKind::Repeat));
         }
-        if is_refused(self.block, &self.ops) {
-            return Err(TextFault::NotBuilt { line });
+        if !has_agent(self.settings.as_slice(), &setting) {
+            return Err(LineFault::Refused(TextKind::Nobody));
         }
-        Err(TextFault::NotBuilt { line: number })
+        self.settings.push(setting)?;
+        Ok(())
     }
 
-    fn take_part(&mut self, number: u64, line: Line) -> Result<(), TextFault>
-        requires line { IsSound line }
-        requires ready { IsReady self.old }
-        ensures takes { Gives (λ _. self.new) result
-            (spec.with_part number line self.old.place self.old) }
-        ensures ready { OnOk result (IsReady self.new) }
+    fn take_client(&mut self, alloc: Global, side: Side) -> Result<(), LineFault>
+        requires { IsReady (sofar self.old) }
+        ensures { GivesBut NoMemory (λ _. sofar self.new) result
+            (spec.with_line (sofar self.old) (lines.Client side)) }
     {
-        match (self.place, line) {
-            (Place::Start, Line::Block(block)) => {
-                self.place = Place::Block;
-                self.block = block;
-                Ok(())
-            }
-            (Place::Block, Line::Pace) => {
-                self.place = Place::Pace;
-                Ok(())
-            }
-            (Place::Pace, Line::Client(side)) => {
-                self.place = Place::Client;
-                self.client = Some(side);
-                Ok(())
-            }
-            (Place::Client, Line::Txn) if self.txns.len() < MOST_TXNS => {
-                self.place = Place::Txn { line: number };
-                Ok(())
-            }
-            (Place::Pace | Place::Client, Line::Operator) => {
-                self.place = Place::Operator;
-                Ok(())
-            }
-            (Place::Operator, Line::Order { command, longest }) => {
-                self.take_command(number, command, longest)
-            }
-            (Place::Pace | Place::Client | Place::Operator, Line::Schedule) => {
-                self.place = Place::Schedule;
-                Ok(())
-            }
-            (Place::Schedule, Line::Event(event)) if self.schedule.len() < MOST_EVENTS => {
-                self.schedule.push(event)?;
-                Ok(())
-            }
-            _ => Err(TextFault::NotBuilt { line: number }),
+        if self.clients_in() >= MOST_CLIENTS {
+            return Err(LineFault::Refused(TextKind::Many));
+        }
+        self.close(alloc)?;
+        self.part = Part::Client;
+        self.side = side;
+        Ok(())
+    }
+
+    fn take_txn(&mut self, alloc: Global) -> Result<(), LineFault>
+        ensures { GivesBut NoMemory (λ _. sofar self.new) result
+            (spec.with_line (sofar self.old) lines.Txn) }
+    {
+        self.close_txn(alloc)?;
+        if self.txns.len() >= MOST_TXNS {
+            return Err(LineFault::Refused(TextKind::Many));
+        }
+        self.part = Part::Reads;
+        Ok(())
+    }
+
+    fn take_op(&mut self, op: TxOp) -> Result<(), LineFault>
+        ensures { GivesBut NoMemory (λ _. sofar self.new) result
+            (spec.with_line (sofar self.old) (lines.Op op)) }
+    {
+        if self.ops.len() >= MOST_OPS {
+            return Err(LineFault::Refused(TextKind::Many));
+        }
+        self.part = part_behind(&op);
+        self.ops.push(op)?;
+        Ok(())
+    }
+
+    fn take_part(&mut self, alloc: Global, part: Part) -> Result<(), LineFault>
+        requires { IsReady (sofar self.old) }
+        ensures { GivesBut NoMemory (λ _. sofar self.new) result
+            (spec.in_part part (sofar self.old)) }
+    {
+        self.close(alloc)?;
+        self.part = part;
+        Ok(())
+    }
+
+    fn take_command(&mut self, command: Command) -> Result<(), LineFault>
+        ensures { GivesBut NoMemory (λ _. sofar self.new) result
+            (spec.with_line (sofar self.old) (lines.Order command)) }
+    {
+        if self.operator.len() >= MOST_COMMANDS {
+            return Err(LineFault::Refused(TextKind::Many));
+        }
+        self.operator.push(command)?;
+        Ok(())
+    }
+
+    fn take_event(&mut self, kind: EventKind, n: u64, m: u64) -> Result<(), LineFault>
+        requires { IsReady (sofar self.old) }
+        ensures { GivesBut NoMemory (λ _. sofar self.new) result
+            (spec.with_line (sofar self.old) (lines.Event kind n m)) }
+    {
+        if self.schedule.len() >= MOST_EVENTS {
+            return Err(LineFault::Refused(TextKind::Many));
+        }
+        if !self.is_there(kind, n) {
+            return Err(LineFault::Refused(TextKind::Nobody));
+        }
+        let event = event_with(kind, n, m);
+        self.schedule.push(event)?;
+        Ok(())
+    }
+
+    /// Whether an event's client or agent is there.
+    fn is_there(&self, kind: EventKind, n: u64) -> bool
+        ensures { result ≡ spec.is_there (sofar self.now) kind n }
+    {
+        match kind {
+            EventKind::Begin | EventKind::Commit => 1 <= n && n <= self.clients.len() as u64,
+            EventKind::Tick | EventKind::Op | EventKind::Drain => true,
+            _ => n <= number_for(SettingKind::Agents, self.settings.as_slice()),
         }
     }
 
-    fn take_command(
-        &mut self,
-        number: u64,
-        command: Command,
-        longest: usize,
-    ) -> Result<(), TextFault>
-        requires within { IsWithin longest command }
-        requires ready { IsReady self.old }
-        requires place { self.old.place ≡ places.Operator }
-        ensures takes { Gives (λ _. self.new) result
-            (spec.with_command number command longest self.old) }
-        ensures ready { OnOk result (IsReady self.new) }
+    /// Keeps the transaction and the client that might have gone on.
+    pub fn close(&mut self, alloc: Global) -> Result<(), AllocError>
+        requires { IsReady (sofar self.old) }
+        ensures { OnOk result (sofar self.new ≡ spec.closed (sofar self.old)) }
     {
-        if longest <= key_limit(self.block) && self.operator.len() < MOST_COMMANDS {
-            self.operator.push(command)?;
-            return Ok(());
-        }
-        Err(TextFault::NotBuilt { line: number })
+        self.close_txn(alloc)?;
+        self.close_client(alloc)
     }
 
     /// Keeps the transaction that might have gone on, if there is one.
-    fn close(&mut self, alloc: Global) -> Result<(), TextFault>
-        requires { IsReady self.old }
-        ensures closes { Gives (λ _. self.new) result (spec.closed self.old) }
-        ensures ready { OnOk result (IsReady self.new) }
+    fn close_txn(&mut self, alloc: Global) -> Result<(), AllocError>
+        ensures { OnOk result (sofar self.new ≡ spec.with_txn (sofar self.old)) }
     {
-        let Place::Txn { line } = self.place else {
+        if !self.part.in_txn() {
             return Ok(());
-        };
-        if is_refused(self.block, &self.ops) {
-            return Err(TextFault::NotBuilt { line });
         }
         let ops = self.take_ops(alloc)?;
         self.txns.push(ops)?;
-        self.place = Place::Client;
+        self.part = Part::Client;
+        Ok(())
+    }
+
+    /// Keeps the client that might have gone on, if there is one.
+    fn close_client(&mut self, alloc: Global) -> Result<(), AllocError>
+        requires { nat_le (spec.clients_in (sofar self.old)) 64 ≡ true }
+        ensures { OnOk result (sofar self.new ≡ spec.with_client (sofar self.old)) }
+    {
+        if !self.part.in_client() {
+            return Ok(());
+        }
+        let txns = mem::replace(&mut self.txns, Seq::new(alloc));
+        let txns = SharedSeq::from_vec(txns.into_vec())?;
+        let number = self.clients.len() as u32 + 1;
+        let side = self.side;
+        self.clients.push(ClientScript { number, side, txns })?;
+        self.part = Part::Settings;
         Ok(())
     }
 
@@ -206,89 +277,51 @@ impl Reader {
         self.ops = TxOps::from_vec(list);
         Ok(TxOps::from_vec(ops))
     }
+}
 
-    /// What all lines say, where `end` is the number after the last one.
-    pub fn finish(mut self, alloc: Global, end: u64) -> Result<Workload, TextFault>
-        requires { IsReady self }
-        ensures { Gives what result (spec.finished end self) }
-    {
-        self.close(alloc)?;
-        self.workload(alloc, end)
-    }
-
-    fn workload(self, alloc: Global, end: u64) -> Result<Workload, TextFault>
-        requires { IsReady self }
-        ensures { Gives what result (spec.at_end end self.place self) }
-    {
-        if let Place::Start | Place::Block = self.place {
-            return Err(TextFault::NotBuilt { line: end });
-        }
-        let Reader {
-            block,
-            client,
-            txns,
-            operator,
-            schedule,
-            ..
-        } = self;
-        let clients = clients(alloc, client, txns)?;
-        let operator = SharedSeq::from_vec(operator.into_vec())?;
-        let schedule = SharedSeq::from_vec(schedule.into_vec())?;
-        let settings = Settings { block, pace: PACE };
-        Ok(Workload {
-            settings,
-            clients,
-            operator,
-            schedule,
-        })
+fn part_behind(op: &TxOp) -> Part
+    ensures { result ≡ spec.part_behind op.now }
+{
+    match op {
+        TxOp::Write(_) => Part::Writes,
+        _ => Part::Reads,
     }
 }
 
-/// Whether a commit of these operations would be refused for what they are.
-#[tactic(auto, unfolding(crate::specs::Parts::is_refused))]
-fn is_refused(block: u32, ops: &TxOps) -> bool
-    ensures { result ≡ is_refused block ops.now }
+fn is_scheduled(run: bool, keyword: Keyword) -> bool
+    ensures { result ≡ spec.is_scheduled run keyword }
 {
-    fault_of(ops.as_slice(), key_limit(block), value_limit(block)).is_some()
-}
-
-/// The greatest length of a key, which is 0 for a block that isn't one of the four.
-fn key_limit(block: u32) -> usize
-    ensures { result ≡ key_limit_of block }
-{
-    match Profile::from_block(block) {
-        Some(profile) => profile.key,
-        None => 0,
+    match keyword {
+        Keyword::Schedule => run,
+        _ => false,
     }
 }
 
-/// The greatest length of a value, which is 0 for a block that isn't one of the four.
-fn value_limit(block: u32) -> usize
-    ensures { result ≡ limit_of block }
+/// Whether the first word, where there is one, is this number or none.
+fn is_first_no_other(n: u64, words: &[u8]) -> bool
+    requires { n ≤ 65 }
+    ensures { result ≡ spec.is_first_no_other n (words_of words.now) }
 {
-    match Profile::from_block(block) {
-        Some(profile) => profile.value,
-        None => 0,
+    match first_word(words) {
+        Some((word, _)) => is_no_other(n, word),
+        None => true,
     }
 }
 
-/// The client with these transactions, where there is one.
-fn clients(
-    alloc: Global,
-    client: Option<Side>,
-    txns: Seq<TxOps>,
-) -> Result<Seq<ClientScript>, AllocError>
-    ensures same { IfOk result (λ clients. clients ≡ clients_of client txns) }
-    ensures numbered { IfOk result (λ clients. are_numbered 1 clients ≡ true) }
+/// Whether the word is this number or none.
+fn is_no_other(n: u64, word: &[u8]) -> bool
+    requires { n ≤ 65 }
+    ensures { result ≡ spec.is_no_other n word.now }
 {
-    let mut clients = Seq::new(alloc);
-    if let Some(side) = client {
-        let txns = SharedSeq::from_vec(txns.into_vec())?;
-        clients.push(ClientScript {
-            number: 1,
-            side,
-            txns,
-        })?;
+    !is_decimal(word) || is_value(n, value_of(word))
+}
+
+/// Whether the number is there and this one.
+fn is_value(n: u64, value: Option<u64>) -> bool
+    ensures { result ≡ spec.is_value n value }
+{
+    match value {
+        Some(value) => value == n,
+        None => false,
     }
-    Ok(clients)
 }

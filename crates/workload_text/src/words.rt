@@ -1,83 +1,65 @@
 //! What single words spell.
 
-ghost use Rattle.std.specs.Prelude.{◌≡◌, ◌++◌, [], ◌∷◌, true, length, max, string_bytes, Ok, IfOk, IfSome, OnOk};
+ghost use Rattle.std.specs.Prelude.{◌≡◌, ◌++◌, [], ◌∷◌, true, Ok, IfOk, OnOk, string_bytes};
 ghost use Rattle.std.specs.List.{list_all};
-ghost use Rattle.block_frame.specs.Profiles.{is_block};
+ghost use Rattle.fb_bytes.specs.Results.{GivesBut};
+ghost use Rattle.workload_text.specs.declared.line_fault.LineFault.TheVariants.{NoMemory};
 ghost use Rattle.workload_text.specs.Commands as commands;
 ghost use Rattle.workload_text.specs.Commands.{is_name_byte};
-ghost use Rattle.workload_text.specs.Lines as spec;
+ghost use Rattle.workload_text.specs.Words as spec;
 
-use crate::Side;
+use crate::line_fault::LineFault;
+use crate::{Side, TextKind};
 use fb_bytes::{Blob, KeyRange, Text, WordFault, is_same, read_bytes};
 use std::alloc::{AllocError, Global};
 
 /// The most bytes of a name.
 const MOST_NAME_BYTES: usize = 32;
 
-/// The bytes that a word spells, if it spells some.
-pub fn bytes_of(alloc: Global, word: &[u8]) -> Result<Option<Blob>, AllocError>
-    ensures { IfOk result (λ bytes. bytes ≡ spec.bytes_of word.now) }
+/// The bytes that a word spells.
+pub fn bytes_of(alloc: Global, word: &[u8]) -> Result<Blob, LineFault>
+    ensures { GivesBut NoMemory (λ bytes. bytes) result (spec.bytes_of word.now) }
 {
     match read_bytes(alloc, word) {
-        Ok(bytes) => Ok(Some(bytes)),
-        Err(WordFault::Escape { .. } | WordFault::Open) => Ok(None),
-        Err(WordFault::NoMemory) => Err(AllocError),
+        Ok(bytes) => Ok(bytes),
+        Err(WordFault::Escape { .. } | WordFault::Open) => Err(LineFault::Refused(TextKind::Key)),
+        Err(WordFault::NoMemory) => Err(LineFault::NoMemory),
     }
 }
 
 /// The range that two words spell.
-pub fn range_of(alloc: Global, begin: &[u8], end: &[u8]) -> Result<Option<KeyRange>, AllocError>
-    ensures { IfOk result (λ range. range ≡ spec.range_of begin.now end.now) }
+pub fn range_of(alloc: Global, begin: &[u8], end: &[u8]) -> Result<KeyRange, LineFault>
+    ensures { GivesBut NoMemory (λ range. range) result (spec.range_of begin.now end.now) }
 {
-    let Some(begin) = bytes_of(alloc, begin)? else {
-        return Ok(None);
-    };
-    let Some(end) = bytes_of(alloc, end)? else {
-        return Ok(None);
-    };
-    Ok(Some(KeyRange { begin, end }))
-}
-
-/// The length of the longer end.
-pub fn longest_of(range: &KeyRange) -> usize
-    ensures { result ≡ spec.longest_of range.now }
-{
-    let begin = range.begin.len();
-    let end = range.end.len();
-    if begin < end { end } else { begin }
+    let begin = bytes_of(alloc, begin)?;
+    let end = bytes_of(alloc, end)?;
+    Ok(KeyRange { begin, end })
 }
 
 /// The database that a word names.
-pub fn side_of(word: &[u8]) -> Option<Side>
+pub fn side_of(word: &[u8]) -> Result<Side, LineFault>
     ensures { result ≡ spec.side_of word.now }
 {
     if is_same(word, b"src") {
-        return Some(Side::Src);
+        return Ok(Side::Src);
     }
     if is_same(word, b"dst") {
-        return Some(Side::Dst);
+        return Ok(Side::Dst);
     }
-    None
+    Err(LineFault::Refused(TextKind::Range))
 }
 
-/// The block that a word names, which is one of the four.
-pub fn block_of(word: &[u8]) -> Option<u32>
-    ensures said { result ≡ spec.block_of word.now }
-    ensures listed { IfSome result (λ block. is_block block ≡ true) }
+/// Which of two words it is: the first one.
+pub fn mode_of(on: &[u8], off: &[u8], word: &[u8]) -> Result<bool, LineFault>
+    ensures { result ≡ spec.mode_of on.now off.now word.now }
 {
-    if is_same(word, b"256") {
-        return Some(256);
+    if is_same(word, on) {
+        return Ok(true);
     }
-    if is_same(word, b"4096") {
-        return Some(4096);
+    if is_same(word, off) {
+        return Ok(false);
     }
-    if is_same(word, b"262144") {
-        return Some(262144);
-    }
-    if is_same(word, b"1048576") {
-        return Some(1048576);
-    }
-    None
+    Err(LineFault::Refused(TextKind::Range))
 }
 
 /// Whether a word has the form of a tag and of a container's name: 1 to 32 digits, letters, `_` and
@@ -90,15 +72,14 @@ pub fn is_container_name(word: &[u8]) -> bool
 }
 
 /// The tag or the container that a word names.
-pub fn name_of(alloc: Global, word: &[u8]) -> Result<Option<Text>, AllocError>
-    ensures said { IfOk result (λ name. name ≡ spec.name_of word.now) }
-    ensures named { IfOk result (λ name. IfSome name (λ n. commands.is_container_name n ≡ true)) }
+pub fn name_of(alloc: Global, word: &[u8]) -> Result<Text, LineFault>
+    ensures { GivesBut NoMemory (λ name. name) result (spec.name_of word.now) }
 {
     if !is_container_name(word) {
-        return Ok(None);
+        return Err(LineFault::Refused(TextKind::Name));
     }
     let name = text_of(alloc, word)?;
-    Ok(Some(name))
+    Ok(name)
 }
 
 fn begins_well(word: &[u8]) -> bool

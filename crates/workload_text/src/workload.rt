@@ -1,6 +1,6 @@
-ghost use Rattle.std.specs.Prelude.{◌≡◌, true};
+ghost use Rattle.std.specs.Prelude.{◌≡◌, true, length, nat_le};
 ghost use Rattle.std.specs.List.{AllByRecursion, AllByRecursion-prop};
-ghost use Rattle.workload_text.specs.inner.Scripts.{are_numbered};
+ghost use Rattle.workload_text.specs.Allowed.{are_clients, are_events};
 ghost use Rattle.workload_text.specs.Commands.{IsCommand, IsCommand-prop};
 
 use crate::{ClientScript, Command, ScheduleLine, Settings};
@@ -16,17 +16,20 @@ pub struct Workload {
     /// In their order.
     pub operator: SharedSeq<Command>,
     pub schedule: SharedSeq<ScheduleLine>,
-    pub ghost numbered: { are_numbered 1 clients ≡ true },
+    pub ghost clients_allowed: { are_clients clients ≡ true },
+    pub ghost few_commands: { nat_le (length operator) 1000 ≡ true },
     pub ghost operator_allowed: { AllByRecursion (IsCommand settings.block) operator } by { AllByRecursion-prop (IsCommand settings.block) (IsCommand-prop settings.block) operator },
+    pub ghost schedule_allowed: { are_events (length clients) settings.agents schedule ≡ true },
 }
 
 impl TryCopy for Workload {
     fn copy(&self) -> Result<Self, AllocError> {
+        let settings = self.settings.copy()?;
         let clients = self.clients.copy()?;
         let operator = self.operator.copy()?;
         let schedule = self.schedule.copy()?;
         Ok(Workload {
-            settings: self.settings,
+            settings,
             clients,
             operator,
             schedule,

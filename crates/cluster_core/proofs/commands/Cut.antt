@@ -197,7 +197,7 @@ cut_writable k block begin end low history job b r l a =
 pub chunk_writable : (p : Workload) (w : State) (place : ℕ) (job : Backup) (block begin end : ℕ) (batches : List Batch) → Sound p w → slice_get w.jobs place ≡ Some (types.Backup job) → has_ended job.job.state ≡ false → block ≡ p.settings.block → begin ≡ job.job.next → batches ≡ logged (history_on job.side w) job.job.terms.ranges begin end → logs.IsWritable block begin end batches
 chunk_writable p w place job block begin end batches h at r b n e =
     let j = h.jobs.each place (types.Backup job) at in
-    let listed : is_block p.settings.block ≡ true = p.settings.block_listed in
+    let listed : is_block p.settings.block ≡ true = p.settings.block_allowed in
     let begun : job.job.begin ≤ begin = (let q = j.begun in omega arith) in
     subst (λ (k : ℕ). logs.IsWritable k begin end batches) (sym b)
     (subst (λ (bs : List Batch). logs.IsWritable p.settings.block begin end bs) (sym e)
@@ -250,7 +250,7 @@ fresh_log name tickets begin end ticket block n = record { undrawn = λ s v t b 
 cut_order : (k : Known) (p : Workload) (w : State) (place : ℕ) (job : Backup) → Sound p w → slice_get w.jobs place ≡ Some (types.Backup job) → has_ended job.job.state ≡ false → job.job.next ≤ w.time → w.tickets ≤ most_version → IsOrder p w place job (with_cut w job).job (cut_name p.settings w job) (cut_bytes p.settings w job)
 cut_order k p w place job h at running n t =
     let j = h.jobs.each place (types.Backup job) at in
-    let block : is_block p.settings.block ≡ true = p.settings.block_listed in
+    let block : is_block p.settings.block ≡ true = p.settings.block_allowed in
     let bound : w.time ≤ most_version = h.clock.bound in
     let name : name_of (cut_name p.settings w job) ≡ Log job.job.next (w.time + 1) w.tickets p.settings.block = named k (log_name job.job w.time w.tickets p.settings.block) (log_spelled job.job.next (w.time + 1) w.tickets p.settings.block (omega arith) (omega arith) t block) in
     let honest = cut_honest k p.settings.block w.time job.job.next job.job.begin (history_on job.side w) job (cut_name p.settings w job) block bound (h.databases.histories job.side).rising j.begun (j.logged running) in

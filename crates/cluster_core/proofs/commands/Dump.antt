@@ -192,7 +192,7 @@ dump_order : (k : Known) (p : Workload) (w : State) (place : ℕ) (job : Backup)
     → IsOrder p w place job (with_dump p.settings w job piece).job (dump_name p.settings w job) (dump_bytes p.settings w job piece)
 dump_order k p w place job piece h at i f t =
     let j = h.jobs.each place (types.Backup job) at in
-    let block : is_block p.settings.block ≡ true = p.settings.block_listed in
+    let block : is_block p.settings.block ≡ true = p.settings.block_allowed in
     let bound : w.time ≤ most_version = h.clock.bound in
     let snapshot : snapshot_at job.job w.time ≤ most_version = snapshot_le job.job.noted w.time job.job.snapshot most_version bound (let s = j.snapshot in omega arith) in
     let name : name_of (dump_name p.settings w job) ≡ Range (snapshot_at job.job w.time) w.time w.tickets p.settings.block = named k (range_name job.job w.time w.tickets p.settings.block) (range_spelled (snapshot_at job.job w.time) w.time w.tickets p.settings.block snapshot bound t block) in
@@ -231,7 +231,7 @@ dump_keeps k p w piece luck found i h at = dump_tested_keeps k p w found piece l
 
 -- a piece of a side's database can be written
 piece_writable : (p : Workload) (w : State) (side : Side) (piece : KeyRange) → Sound p w → IsPiece (key_limit_of p.settings.block) piece → IsWritable p.settings.block piece.begin piece.end (pairs_at p.settings.block (history_on side w) w.time piece)
-piece_writable p w side piece h i = dump_writable known p.settings.block w.time (history_on side w) piece p.settings.block_listed (h.databases.within side) i
+piece_writable p w side piece h i = dump_writable known p.settings.block w.time (history_on side w) piece p.settings.block_allowed (h.databases.within side) i
 
 pub piece_written : (p : Workload) (w : State) (seen : Seen) (side : Side) (piece : KeyRange) (block : ℕ) (history : List Entry) (begin end : Bytes) (pairs : List Pair) → Sound p w → p ≡ seen.workload → w ≡ seen.state → IsPiece (key_limit_of seen.workload.settings.block) piece → block ≡ seen.workload.settings.block → history ≡ history_on side seen.state → pairs ≡ pairs_at block history w.time piece → begin ≡ piece.begin → end ≡ piece.end → IsWritable p.settings.block begin end pairs
 piece_written p w seen side piece block history begin end pairs h e f i b t q x y =

@@ -36,6 +36,7 @@ use Rattle.container_view.specs.Changes.{no_files}
 use Rattle.container_view.specs.Files.{whole_name, name_in, renamed, inside, folder_of}
 use Rattle.container_view.specs.Names.{names_inside}
 use Rattle.container_view.specs.Property.{property_in}
+use Rattle.block_frame.specs.Profiles.{key_limit_of}
 use Rattle.workload_text.specs.Commands.{IsOpening}
 use Rattle.database.specs.Commits.{most_version}
 use Rattle.cluster_core.specs.declared.event.StepFault.TheVariants.{VersionsSpent}
@@ -47,6 +48,7 @@ use Rattle.cluster_core.specs.commands.Shared.{done, refuses}
 use Rattle.cluster_core.specs.Sound.{IsOrdered, AreLoggable, BackupSound, IsStored, JobSound, JobStored, AreApart, Sound}
 use Rattle.cluster_core.proofs.Entries.{All-weaker}
 use Rattle.cluster_core.proofs.All.{each_more}
+use Rattle.cluster_core.proofs.Paces.{pace_forward}
 use Rattle.cluster_core.proofs.Known.{Known}
 use Rattle.cluster_core.proofs.Grown.{each_sound, each_kept, job_grown, stored_grown, waits}
 use Rattle.cluster_core.proofs.Frames.{sound_gone}
@@ -127,11 +129,11 @@ empty_stored k block now tickets version number history files tag side container
 nothing_logged : (version now : ℕ) (ranges : List KeyRange) (history : List Entry) → now < version → AllByRecursion (λ (x : Entry). x.version ≤ now) history → AreLoggable ranges version history
 nothing_logged version now ranges history l a = All-weaker (λ (x : Entry). x.version ≤ now) (λ (x : Entry). version ≤ x.version → length (mutations_spelling (all_clipped ranges x.muts)) < 2 ^ 32) history (λ x h b. absurd (omega arith)) a
 
-new_sound : (block now tickets version number : ℕ) (history : List Entry) (tag : Bytes) (side : Side) (container : Bytes) (ranges : List KeyRange) → IsOpening tag container ranges → now < version → AllByRecursion (λ (x : Entry). x.version ≤ now) history → BackupSound block version tickets history (new_backup number tag side container ranges version)
+new_sound : (block now tickets version number : ℕ) (history : List Entry) (tag : Bytes) (side : Side) (container : Bytes) (ranges : List KeyRange) → IsOpening (key_limit_of block) tag container ranges → now < version → AllByRecursion (λ (x : Entry). x.version ≤ now) history → BackupSound block version tickets history (new_backup number tag side container ranges version)
 new_sound block now tickets version number history tag side container ranges i l a = record {
   named = i.container_named;
-  ranges = i.are_ranges;
-  some = i.some;
+  ranges = i.ranges_allowed.are_ranges;
+  some = i.ranges_allowed.some;
   pieces = tt;
   inside = λ key e. cc;
   noted = tt;
@@ -190,7 +192,7 @@ apart_more jobs new none h a b first second e f s =
       ]
     ]
 
-sound_more : (k : Known) (p : Workload) (w : State) (tag : Bytes) (side : Side) (container : Bytes) (ranges : List KeyRange) (version : ℕ) → Sound p w → w.time < version → version ≤ most_version → IsOpening tag container ranges → started_in container w.jobs ≡ None → ((files : List File) → w.files ≡ Some files → names_inside container files ≡ []) → Sound p (record w { time = version; jobs = w.jobs ++ new_job (length w.jobs + 1) tag side container ranges version ∷ [] })
+sound_more : (k : Known) (p : Workload) (w : State) (tag : Bytes) (side : Side) (container : Bytes) (ranges : List KeyRange) (version : ℕ) → Sound p w → w.time < version → version ≤ most_version → IsOpening (key_limit_of p.settings.block) tag container ranges → started_in container w.jobs ≡ None → ((files : List File) → w.files ≡ Some files → names_inside container files ≡ []) → Sound p (record w { time = version; jobs = w.jobs ++ new_job (length w.jobs + 1) tag side container ranges version ∷ [] })
 sound_more k p w tag side container ranges version h l m i none empty =
     let le : w.time ≤ version = omega arith in
     let later : (t : Side) → IsOrdered version (history_on t w) = λ t. let q = h.databases.histories t in record { rising = q.rising; past = All-weaker (λ (x : Entry). x.version ≤ w.time) (λ (x : Entry). x.version ≤ version) (history_on t w) (λ x r. omega arith) q.past } in
@@ -218,32 +220,32 @@ sound_more k p w tag side container ranges version h l m i none empty =
     same : (n : ℕ) → n ≤ n
     same n = omega arith
 
-starts_keeps : (k : Known) (p : Workload) (w : State) (tag : Bytes) (side : Side) (container : Bytes) (ranges : List KeyRange) → Sound p w → IsOpening tag container ranges → started_in container w.jobs ≡ None → ((files : List File) → w.files ≡ Some files → names_inside container files ≡ []) → Sound p (starts p.settings w tag side container ranges).state
+starts_keeps : (k : Known) (p : Workload) (w : State) (tag : Bytes) (side : Side) (container : Bytes) (ranges : List KeyRange) → Sound p w → IsOpening (key_limit_of p.settings.block) tag container ranges → started_in container w.jobs ≡ None → ((files : List File) → w.files ≡ Some files → names_inside container files ≡ []) → Sound p (starts p.settings w tag side container ranges).state
 starts_keeps k p w tag side container ranges h i none empty = go (nat_lt most_version (w.time + p.settings.pace)) refl
   where
     go : (b : Bool) → nat_lt most_version (w.time + p.settings.pace) ≡ b → Sound p (cond b (moved (Err (VersionsSpent w.time)) w) (done (record w { time = w.time + p.settings.pace; jobs = w.jobs ++ new_job (length w.jobs + 1) tag side container ranges (w.time + p.settings.pace) ∷ [] }))).state
     go true e = h
     go false e =
-        let pace : 1 ≤ p.settings.pace = p.settings.pace_in_limits.0 in
+        let pace : 1 ≤ p.settings.pace = pace_forward p in
         let l : w.time < w.time + p.settings.pace = omega arith in
         sound_gone p (record w { time = w.time + p.settings.pace; jobs = w.jobs ++ new_job (length w.jobs + 1) tag side container ranges (w.time + p.settings.pace) ∷ [] })
         (sound_more k p w tag side container ranges (w.time + p.settings.pace) h l (ltb-false most_version (w.time + p.settings.pace) e) i none empty)
 
-over_keeps : (k : Known) (p : Workload) (w : State) (tag : Bytes) (side : Side) (container : Bytes) (ranges : List KeyRange) (names said : List Bytes) → Sound p w → IsOpening tag container ranges → started_in container w.jobs ≡ None → names_listed container w.files said ≡ names → Sound p (open_over p.settings w tag side container ranges names).state
+over_keeps : (k : Known) (p : Workload) (w : State) (tag : Bytes) (side : Side) (container : Bytes) (ranges : List KeyRange) (names said : List Bytes) → Sound p w → IsOpening (key_limit_of p.settings.block) tag container ranges → started_in container w.jobs ≡ None → names_listed container w.files said ≡ names → Sound p (open_over p.settings w tag side container ranges names).state
 over_keeps k p w tag side container ranges [] said h i none e = starts_keeps k p w tag side container ranges h i none (λ files f. subst (λ (o : Option (List File)). names_listed container o said ≡ []) f e)
 over_keeps k p w tag side container ranges (name ∷ names) said h i none e = sound_gone p w h
 
-listed_keeps : (k : Known) (p : Workload) (w : State) (tag : Bytes) (side : Side) (container : Bytes) (ranges : List KeyRange) (luck : Luck) → Sound p w → IsOpening tag container ranges → started_in container w.jobs ≡ None → Sound p (open_listed p.settings w tag side container ranges luck).state
+listed_keeps : (k : Known) (p : Workload) (w : State) (tag : Bytes) (side : Side) (container : Bytes) (ranges : List KeyRange) (luck : Luck) → Sound p w → IsOpening (key_limit_of p.settings.block) tag container ranges → started_in container w.jobs ≡ None → Sound p (open_listed p.settings w tag side container ranges luck).state
 listed_keeps k p w tag side container ranges (Fine said) h i none = over_keeps k p w tag side container ranges (names_listed container w.files (names_said said)) (names_said said) h i none refl
 listed_keeps k p w tag side container ranges FailsOld h i none = h
 listed_keeps k p w tag side container ranges FailsNew h i none = h
 listed_keeps k p w tag side container ranges Starved h i none = h
 
-untaken_keeps : (k : Known) (p : Workload) (w : State) (tag : Bytes) (side : Side) (container : Bytes) (ranges : List KeyRange) (luck : Luck) (o : Option Job) → Sound p w → IsOpening tag container ranges → started_in container w.jobs ≡ o → Sound p (open_untaken p.settings w tag side container ranges luck o).state
+untaken_keeps : (k : Known) (p : Workload) (w : State) (tag : Bytes) (side : Side) (container : Bytes) (ranges : List KeyRange) (luck : Luck) (o : Option Job) → Sound p w → IsOpening (key_limit_of p.settings.block) tag container ranges → started_in container w.jobs ≡ o → Sound p (open_untaken p.settings w tag side container ranges luck o).state
 untaken_keeps k p w tag side container ranges luck (Some job) h i e = sound_gone p w h
 untaken_keeps k p w tag side container ranges luck None h i e = listed_keeps k p w tag side container ranges luck h i e
 
-pub open_keeps : (k : Known) (p : Workload) (w : State) (tag : Bytes) (side : Side) (container : Bytes) (ranges : List KeyRange) (luck : Luck) → Sound p w → IsOpening tag container ranges → Sound p (open_job p.settings w tag side container ranges luck).state
+pub open_keeps : (k : Known) (p : Workload) (w : State) (tag : Bytes) (side : Side) (container : Bytes) (ranges : List KeyRange) (luck : Luck) → Sound p w → IsOpening (key_limit_of p.settings.block) tag container ranges → Sound p (open_job p.settings w tag side container ranges luck).state
 open_keeps k p w tag side container ranges luck h i = go (is_busy (newest tag w.jobs))
   where
     go : (b : Bool) → Sound p (cond b (refuses (TagBusy tag) w) (open_untaken p.settings w tag side container ranges luck (started_in container w.jobs))).state

@@ -52,6 +52,7 @@ use Rattle.cluster_core.specs.Moves.{moved}
 use Rattle.cluster_core.specs.Sound.{IsOrdered, other_side, IsClientSound, AreLoggable, BackupSound, IsStored, AreApart, Sound, source_of}
 use Rattle.cluster_core.proofs.Lists.{scripts_put, each_put}
 use Rattle.cluster_core.proofs.Entries.{append_nil, entries_by-append, committed-snoc, Follow-snoc, All-snoc, All-weaker, IsRising-snoc}
+use Rattle.cluster_core.proofs.Paces.{pace_forward}
 use Rattle.cluster_core.proofs.Known.{Known}
 use Rattle.cluster_core.proofs.Grown.{job_grown, stored_grown, waits, enters}
 use Rattle.cluster_core.proofs.Touching.{Touches, same}
@@ -244,7 +245,7 @@ grows_after block time pace (Some version) history who muts job q e = enters blo
 ended_keeps : (k : Known) (p : Workload) (w : State) (n : ℕ) (c : ClientState) (ops : List TxOp) (outcome : Outcome) (o : Option ℕ) → client_at w.clients n ≡ Some c → next_ops c ≡ Some ops → outcome.place ≡ c.place + 1 → outcome.attempt ≡ 1 → version_of outcome.end ≡ o → IsNext w.time p.settings.pace o → IsTaking p.settings.block w.time p.settings.pace (logs_of c.script.side w.jobs) (writes_of ops) o → Sound p w → Sound p (ended c.script.side w n (after_try c outcome) o (who.Client c.script.number outcome.place) (writes_of ops))
 ended_keeps known p w n c ops outcome o at next place attempt end is_next taking h =
     let k : IsClientSound w.src w.dst n c = h.clients.each n c at in
-    let pace : 1 ≤ p.settings.pace = p.settings.pace_in_limits.0 in
+    let pace : 1 ≤ p.settings.pace = pace_forward p in
     let by : Who = who.Client c.script.number outcome.place in
     let history : List Entry = history_after o (who.Client c.script.number outcome.place) (writes_of ops) (history_on c.script.side w) in
     let le : w.time ≤ time_after o w.time = later_time w.time p.settings.pace o is_next in

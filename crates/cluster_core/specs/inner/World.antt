@@ -39,9 +39,12 @@ use Rattle.cluster_core.specs.World.{Seen}
 -- a workload's commands are allowed in one way alone, so that fact has a code
 abbrev pub allowed_code : (settings : Settings) (clients : List ClientScript)
     (operator : List Command) (schedule : List ScheduleLine)
-    (numbered : workload.numbered-type settings clients operator schedule)
-    → Coded (workload.operator_allowed-type settings clients operator schedule numbered)
-allowed_code settings clients operator schedule numbered =
+    (clients_allowed : workload.clients_allowed-type settings clients operator schedule)
+    (few_commands :
+      workload.few_commands-type settings clients operator schedule clients_allowed)
+    → Coded (workload.operator_allowed-type settings clients operator schedule clients_allowed
+      few_commands)
+allowed_code settings clients operator schedule clients_allowed few_commands =
     prop_coded
     (AllByRecursion-prop (IsCommand settings.block) (IsCommand-prop settings.block) operator)
 

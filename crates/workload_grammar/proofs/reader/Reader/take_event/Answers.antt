@@ -1,7 +1,0 @@
-use Rattle.std.proofs.Common.{sym}
-use Rattle.workload_grammar.specs.inner.Seen.{sofar}
-use Rattle.workload_grammar.proofs.Fitting.{there_fits}
-use Rattle.workload_grammar.proofs.reader.Reader.take_event.Goals as goal
-
-pub event_with-event-requires : goal.event_with-event-requires
-event_with-event-requires c = there_fits (sofar c.args.self.now) c.args.kind c.args.n c.requires (sym c.if-not-is_there.ensures)

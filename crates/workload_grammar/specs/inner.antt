@@ -1,3 +1,0 @@
--- Definitions that only private clauses cite.
-pub mod Ready
-pub mod Seen
