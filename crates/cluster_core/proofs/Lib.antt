@@ -13,6 +13,7 @@ pub mod Elsewhere
 mod Openings
 mod Relied
 mod Worlds
+mod Paces
 pub mod LeastKeys
 mod Filings
 pub mod Footprints

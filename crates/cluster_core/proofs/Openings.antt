@@ -51,7 +51,7 @@ scripts_new (x ∷ xs) = ap (λ ys. x ∷ ys) (scripts_new xs)
 numbered_in : (workload : Workload) → are_numbered 1 workload.clients ≡ true
 numbered_in workload =
     let xs = workload.clients in
-    (and_parts (are_numbered 1 xs) (list_all is_client xs) (and_parts (nat_le (length xs) 64) (are_numbered 1 xs && list_all is_client xs) workload.clients_allowed).1).0
+    (and_parts (nat_le (length xs) 64) (are_numbered 1 xs) (and_parts (nat_le (length xs) 64 && are_numbered 1 xs) (list_all is_client xs) workload.clients_allowed).0).1
 
 each_new : (workload : Workload) (number : ℕ) (client : ClientState) → client_at (map new_client workload.clients) number ≡ Some client → IsClientSound [] [] number client
 each_new workload zero client e = cc

@@ -1,5 +1,5 @@
 -- A plan that starts a job is carried out.
-use Rattle.std.specs.Prelude.{◌≡◌, ℕ, ◌+◌, ◌<◌, Bool, true, false, cond, List, [], ◌∷◌, ◌++◌, length, take, Option, Some, None, Ok, Err, ◌⊎◌, nat_lt, if◌then◌else◌, refl}
+use Rattle.std.specs.Prelude.{◌≡◌, ℕ, ◌+◌, ◌<◌, Bool, true, false, cond, List, [], ◌∷◌, ◌++◌, length, take, Option, Some, None, Result, Ok, Err, ◌⊎◌, nat_lt, if◌then◌else◌, refl}
 use Rattle.std.specs.List.{AllByRecursion}
 use Rattle.std.proofs.Common.{ap, sym, ◌∙◌, inl, inr, arith, subst}
 use Rattle.std.proofs.lemmas.Bool.{lt-ltb, ne_eqb}
@@ -16,6 +16,7 @@ use Rattle.database.specs.Commits.{Database, most_version, next_version}
 use Rattle.mutations.specs.declared.Entry.{Entry}
 use Rattle.container_view.specs.Names.{names_inside}
 use Rattle.client_core.specs.Clients.{ClientState}
+use Rattle.cluster_core.specs.declared.event.Answer.{Answer}
 use Rattle.cluster_core.specs.declared.event.Answer.TheVariants as answers
 use Rattle.cluster_core.specs.declared.event.StepFault.{StepFault}
 use Rattle.cluster_core.specs.declared.event.StepFault.TheVariants.{VaultFault, VersionsSpent, NoMemory}
@@ -199,3 +200,11 @@ open_refused p side tag container ranges w new name plan listed e =
 pub open_failed : (p : Workload) (side : Side) (tag container : Bytes) (ranges : List KeyRange) (w new : State) (fault : StepFault) → IsPlan p w (plans.Open tag side container ranges) → new ≡ w → (fault ≡ VaultFault) ⊎ (fault ≡ NoMemory) → (luck : Luck) × (step p w events.Command luck ≡ moved (Err fault) new)
 open_failed p side tag container ranges w new fault plan e (inl f) = (FailsOld, plan FailsOld ∙ ap (moved (Err VaultFault)) (sym e) ∙ ap (λ (x : StepFault). moved (Err x) new) (sym f))
 open_failed p side tag container ranges w new fault plan e (inr f) = (Starved, ap (moved (Err NoMemory)) (sym e) ∙ ap (λ (x : StepFault). moved (Err x) new) (sym f))
+
+-- there was no memory for it
+pub starved_step : (p : Workload) (w new : State) (result : Result Answer StepFault) → result ≡ Err NoMemory → new ≡ w → (luck : Luck) × (step p w events.Command luck ≡ moved result new)
+starved_step p w new result r e = (Starved, ap (moved (Err NoMemory)) (sym e) ∙ ap (λ (x : Result Answer StepFault). moved x new) (sym r))
+
+-- a container with no file
+pub none_listed : (w : State) (container : Bytes) → ((files : List File) → w.files ≡ Some files → names_inside container files ≡ []) → IsListed w container None
+none_listed w container told = ([], listed_names container [] w.files (λ files e. sym (told files e)))

@@ -41,9 +41,9 @@ abbrev pub allowed_code : (settings : Settings) (clients : List ClientScript)
     (operator : List Command) (schedule : List ScheduleLine)
     (clients_allowed : workload.clients_allowed-type settings clients operator schedule)
     (few_commands :
-      workload.few_commands-type settings clients operator schedule clients_allowed)
+    workload.few_commands-type settings clients operator schedule clients_allowed)
     → Coded (workload.operator_allowed-type settings clients operator schedule clients_allowed
-      few_commands)
+    few_commands)
 allowed_code settings clients operator schedule clients_allowed few_commands =
     prop_coded
     (AllByRecursion-prop (IsCommand settings.block) (IsCommand-prop settings.block) operator)

@@ -474,7 +474,7 @@ pub const REFUSED: &[Case] = &[
     ),
 ];
 
-// A source that fails, a sink that fails, and texts that aren't built.
+// A source that fails, a sink that fails, texts that are refused, and texts that aren't played yet.
 pub const ENDINGS: &[Case] = &[
     (
         &[],
@@ -503,20 +503,56 @@ pub const ENDINGS: &[Case] = &[
         &[(REPLAY, SMALLEST, Failing { sink: 1, ..NONE }, 4, b"")],
         &[],
     ),
+    (&[], &[(REPLAY, b"", NONE, 0, b"end 0\n")], &[]),
+    // a bad line, and one that isn't played yet: the first is named, though it comes later
     (
         &[],
-        &[(REPLAY, b"", NONE, 15, b"refused not-built 1\n")],
-        &[],
-    ),
-    (
-        &[],
-        &[(
-            REPLAY,
-            b"block 256\npace 9\n",
-            NONE,
-            15,
-            b"refused not-built 2\n",
-        )],
+        &[
+            (REPLAY, b"sett a", NONE, 2, b"refused text 1 word\n"),
+            (
+                REPLAY,
+                b"pace 5000\ntick\n",
+                NONE,
+                2,
+                b"refused text 2 place\n",
+            ),
+            (REPLAY, b"pace 4999\n", NONE, 0, b"end 0\n"),
+            (
+                REPLAY,
+                b"pace 5000\n",
+                NONE,
+                15,
+                b"refused not-built 1\n",
+            ),
+            (
+                REPLAY,
+                b"client 1 src\n# a comment\nclient 2 src\n",
+                NONE,
+                15,
+                b"refused not-built 3\n",
+            ),
+            (
+                REPLAY,
+                b"client 1 src\ntxn\nget a\nset a 1\n",
+                NONE,
+                15,
+                b"refused not-built 3\n",
+            ),
+            (
+                REPLAY,
+                b"operator\nstatus a\npause\n",
+                NONE,
+                15,
+                b"refused not-built 3\n",
+            ),
+            (
+                REPLAY,
+                b"schedule\nop\ndrain\n",
+                NONE,
+                15,
+                b"refused not-built 3\n",
+            ),
+        ],
         &[],
     ),
 ];

@@ -15,6 +15,8 @@ use Rattle.cluster_core.specs.World.{Seen}
 use Rattle.cluster_core.specs.inner.World.{IsWorld, state_of}
 use Rattle.cluster_core.proofs.plans.Put.{put_files, failed_files, put_world, put_done, failed_step, failed_world}
 use Rattle.cluster_core.proofs.Filings.{filed, unfiled, ahead_there}
+use Rattle.std.proofs.lemmas.Result.{err_from_is_err_and}
+use Rattle.cluster_core.proofs.plans.Start.{starved_step}
 use Rattle.cluster_core.proofs.world.World.put.Goals as goal
 
 pub go_ahead-requires-clause-at : goal.go_ahead-requires-clause-at
@@ -111,3 +113,10 @@ returns-clause-step g c =
           (ap (λ (fs : Option (List File)). moved (Err NoMemory) (record old { files = fs })) (sym files)
           ∙ ap (λ (js : List Job). moved (Err NoMemory) (record old { jobs = js; files = g.V.Vault.files c.put.new.self })) (sym jobs)),
     )
+
+pub returns-in_err-snapshot-clause-step : goal.returns-in_err-snapshot-clause-step
+returns-in_err-snapshot-clause-step g c =
+    let old : State = state_of c.self.inside.clients.items c.self.inside.src c.self.inside.dst c.self.inside.versions (record { jobs = c.self.inside.jobs.items; place = c.self.inside.place; tickets = c.self.inside.tickets }) (g.V.Vault.files c.self.inside.vault) in
+    let same : record old { jobs = c.go_ahead.new.jobs.items } ≡ old = ap (λ (js : List Job). record old { jobs = js }) c.in_err-snapshot.ensures.err in
+    let p = err_from_is_err_and c.from_residual.result c.from_residual.ensures.1 in
+    starved_step c.args.self.now.workload c.args.self.now.state (record old { jobs = c.go_ahead.new.jobs.items }) c.from_residual.result (p.1 ∙ ap Err p.2) (same ∙ ap (λ (s : Seen). s.state) c.self.view_is)

@@ -1,4 +1,4 @@
-use Rattle.std.proofs.Common.{◌≡◌, ℕ, ◌+◌, ◌<◌, true, nat_lt, [], ◌∷◌, ◌++◌, length, take, None, Ok, Err, ap, sym, subst, ◌∙◌}
+use Rattle.std.proofs.Common.{List, ◌≡◌, ℕ, ◌+◌, ◌<◌, true, nat_lt, [], ◌∷◌, ◌++◌, length, take, None, Ok, Err, refl, ap, sym, subst, ◌∙◌}
 use Rattle.workload_text.specs.declared.Side.TheVariants.{Src, Dst}
 use Rattle.cluster_core.specs.declared.event.Answer.TheVariants as answers
 use Rattle.cluster_core.specs.declared.event.Event.TheVariants as events
@@ -10,12 +10,15 @@ use Rattle.cluster_core.specs.commands.Open.{new_job}
 use Rattle.cluster_core.specs.declared.job.Job.TheVariants as types
 use Rattle.cluster_core.specs.Backups.{Backup}
 use Rattle.cluster_core.specs.Jobs.{Job}
+use Rattle.cluster_core.specs.State.{State}
 use Rattle.cluster_core.specs.Moves.{Starved, moved}
 use Rattle.cluster_core.specs.Step.{step}
 use Rattle.cluster_core.specs.inner.Plans.{IsPlan}
 use Rattle.cluster_core.specs.World.{Seen}
 use Rattle.cluster_core.specs.inner.World.{state_of, IsListed}
 use Rattle.cluster_core.proofs.plans.Start.{IsStart, next_same, none_next, next_logs_none, start_world, start_done, start_spent, start_undone, start_undone_world, taken_back}
+use Rattle.std.proofs.lemmas.Result.{err_from_is_err_and}
+use Rattle.cluster_core.proofs.plans.Start.{starved_step}
 use Rattle.cluster_core.proofs.world.World.start.Goals as goal
 
 pub begin_log-requires-clause-src : goal.begin_log-requires-clause-src
@@ -72,3 +75,15 @@ invariant_of-self-in-Err g c = start_undone_world c.self.inside.workload c.self.
 pub returns-in-Err-clause-step : goal.returns-in-Err-clause-step
 returns-in-Err-clause-step g c =
     (Starved, ap (moved (Err NoMemory)) (ap (λ (s : Seen). s.state) (sym c.self.view_is) ∙ sym (start_undone c.self.inside.src c.self.inside.dst c.begin_log.new.src c.begin_log.new.dst c.self.inside.versions c.begin_log.new.versions c.self.inside.clients.items (record { jobs = c.self.inside.jobs.items; place = c.self.inside.place; tickets = c.self.inside.tickets }) (g.V.Vault.files c.self.inside.vault) c.truncate.new.self.items c.in-Err.ensures.err (c.truncate.ensures.items ∙ ap (take c.len-count.result) c.in-Ok.ensures.items ∙ taken_back c.self.inside.jobs.items c.len-count.result (types.Backup c.new-backup.result) (c.len-count.ensures ∙ c.self.inside.jobs.ok.0)))))
+
+pub returns-in_err-job-clause-step : goal.returns-in_err-job-clause-step
+returns-in_err-job-clause-step g c =
+    let p = err_from_is_err_and c.from_residual.result c.from_residual.ensures.1 in
+    starved_step c.args.self.now.workload c.args.self.now.state c.args.self.now.state c.from_residual.result (p.1 ∙ ap Err p.2) refl
+
+pub returns-in_default-push-clause-step : goal.returns-in_default-push-clause-step
+returns-in_default-push-clause-step g c =
+    let old : State = state_of c.self.inside.clients.items c.self.inside.src c.self.inside.dst c.self.inside.versions (record { jobs = c.self.inside.jobs.items; place = c.self.inside.place; tickets = c.self.inside.tickets }) (g.V.Vault.files c.self.inside.vault) in
+    let kept : c.push.new.self.items ≡ c.self.inside.jobs.items = search in
+    let same : record old { jobs = c.push.new.self.items } ≡ old = ap (λ (js : List Job). record old { jobs = js }) kept in
+    starved_step c.args.self.now.workload c.args.self.now.state (record old { jobs = c.push.new.self.items }) (Err NoMemory) refl (same ∙ ap (λ (s : Seen). s.state) c.self.view_is)
