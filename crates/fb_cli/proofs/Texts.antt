@@ -46,11 +46,14 @@ too_long text h = ap (λ b. cond b (Err (Refused 0 Long)) (with_lines false 1 at
 
 -- ---- what reading it comes to
 
-refused_text : (left left' : Option Bytes) (f f' : ℕ) (Q : Type 0) (text : Bytes) (refusal : Fault) → Counts f f' Q → ((bytes : Bytes) → left ≡ Some bytes → (text ≡ bytes) × (left' ≡ Some [])) → playable text ≡ Err refusal → IsOfReading (Some refusal) → (Err refusal ≡ Err SourceFault → ⊥) → ReadsText (stream_change left left' f f') (Err refusal)
+abbrev unread : Fault → Result Workload Fault
+unread fault = Err fault
+
+refused_text : (left left' : Option Bytes) (f f' : ℕ) (Q : Type 0) (text : Bytes) (refusal : Fault) → Counts f f' Q → ((bytes : Bytes) → left ≡ Some bytes → (text ≡ bytes) × (left' ≡ Some [])) → playable text ≡ Err refusal → IsOfReading (Some refusal) → (unread refusal ≡ unread SourceFault → ⊥) → ReadsText (stream_change left left' f f') (Err refusal)
 refused_text left left' f f' Q text refusal c h b r n = record {
   answer = λ bytes e. let k = h bytes e in inr (inr (subst (λ (t : Bytes). SaysText (playable t) (Err refusal)) k.0 (says_refused (playable text) refusal b)));
   kind = r;
-  count = no_fault (Err refusal ≡ Err SourceFault) Q f f' c n;
+  count = no_fault (unread refusal ≡ unread SourceFault) Q f f' c n;
   read = λ bytes e le q. let k = h bytes e in k.1;
 }
 

@@ -132,11 +132,15 @@ fn push_number(out: &mut Blob, front: &[u8], number: u64, back: &[u8]) -> Result
 }
 
 fn push_text_refused(out: &mut Blob, line: u64, kind: TextKind) -> Result<(), AllocError>
-    ensures { IfOk result (λ _. out.new ≡ out.old ++ refusal_line (Some (Fault.TextRefused line kind))) }
+    ensures { IfOk result
+        (λ _. out.new ≡ out.old ++ refusal_line (Some (Fault.TextRefused line kind))) }
 {
-    push_number(out, b"refused text ", line, b" ")?;
+    out.extend_from_slice(b"refused text ")?;
+    put_number_or_none(out, Some(line))?;
+    out.extend_from_slice(b" ")?;
     out.extend_from_slice(kind.word().as_bytes())?;
-    out.extend_from_slice(b"\n")
+    out.extend_from_slice(b"\n")?;
+    Ok(())
 }
 
 fn push_not_restorable(out: &mut Blob, min: Option<u64>, max: Option<u64>) -> Result<(), AllocError>

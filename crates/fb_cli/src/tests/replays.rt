@@ -517,13 +517,7 @@ pub const ENDINGS: &[Case] = &[
                 b"refused text 2 place\n",
             ),
             (REPLAY, b"pace 4999\n", NONE, 0, b"end 0\n"),
-            (
-                REPLAY,
-                b"pace 5000\n",
-                NONE,
-                15,
-                b"refused not-built 1\n",
-            ),
+            (REPLAY, b"pace 5000\n", NONE, 15, b"refused not-built 1\n"),
             (
                 REPLAY,
                 b"client 1 src\n# a comment\nclient 2 src\n",
