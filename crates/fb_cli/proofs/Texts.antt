@@ -1,5 +1,5 @@
 -- What reading a workload's text comes to, by what was read.
-use Rattle.std.specs.Prelude.{◌≡◌, ℕ, ◌+◌, ◌<◌, [], false, length, Option, Some, None, Result, Ok, Err, refl}
+use Rattle.std.specs.Prelude.{◌≡◌, ℕ, ◌+◌, ◌<◌, [], Bool, true, false, length, Option, Some, Result, Ok, Err, refl}
 use Rattle.std.proofs.Common.{ap, sym, ◌∙◌, arith, subst, inl, inr, cond}
 use Rattle.std.proofs.lemmas.Bool.{lt-ltb}
 use Rattle.fb_bytes.specs.Bytes.{Bytes}
@@ -14,7 +14,7 @@ use Rattle.workload_text.specs.Texts.{lines_of}
 use Rattle.fb_bytes.specs.Results.{◌>>=◌}
 use Rattle.fb_cli.specs.declared.fault.Fault.{Fault}
 use Rattle.fb_cli.specs.declared.fault.Fault.TheVariants.{TextRefused, SourceFault, NoMemory, NotBuilt}
-use Rattle.fb_cli.specs.Later.{first_later, played_unless, unless_later, playable}
+use Rattle.fb_cli.specs.Later.{first_later, or_zero, is_played, playable_of, playable}
 use Rattle.fb_cli.specs.Outside.{stream_change}
 use Rattle.fb_cli.specs.Replays.{IsOfReading, SaysText, ReadsText}
 
@@ -36,15 +36,18 @@ says_refused read refusal e = subst (λ (r : Result Built Fault). SaysText r (Er
 -- ---- a text, by what it says and by its first line that isn't played yet
 
 bad_playable : (text : Bytes) (line : ℕ) (kind : TextKind) → built false text ≡ Err (Refused line kind) → playable text ≡ Err (TextRefused line kind)
-bad_playable text line kind e = ap (unless_later (first_later 1 (lines_of text))) e
+bad_playable text line kind e = ap (playable_of (lines_of text)) e
 
-good_playable : (text : Bytes) (w : Built) (later : Option ℕ) → built false text ≡ Ok w → first_later 1 (lines_of text) ≡ later → playable text ≡ played_unless later w
-good_playable text w later e l = ap (unless_later (first_later 1 (lines_of text))) e ∙ ap (λ (o : Option ℕ). played_unless o w) l
+good_playable : (text : Bytes) (w : Built) (played : Bool) → built false text ≡ Ok w → is_played w ≡ played → playable text ≡ cond played (Ok w) (Err (NotBuilt (or_zero (first_later 1 (lines_of text)))))
+good_playable text w played e p = ap (playable_of (lines_of text)) e ∙ ap (λ (b : Bool). cond b (Ok w) (Err (NotBuilt (or_zero (first_later 1 (lines_of text)))))) p
 
 too_long : (text : Bytes) → most_bytes < length text → built false text ≡ Err (Refused 0 Long)
 too_long text h = ap (λ b. cond b (Err (Refused 0 Long)) (with_lines false 1 at_start (lines_of text) >>= λ (s : Sofar). Ok (built_of s))) (lt-ltb _ _ h)
 
 -- ---- what reading it comes to
+
+abbrev unread_built : Fault → Result Built Fault
+unread_built fault = Err fault
 
 abbrev unread : Fault → Result Workload Fault
 unread fault = Err fault
@@ -73,16 +76,16 @@ starved_text left left' f f' Q c = record {
   read = λ bytes e le r. absurd r;
 }
 
-pub built_text : (left left' : Option Bytes) (f f' : ℕ) (Q : Type 0) (text : Bytes) (workload : Workload) → Counts f f' Q → ((bytes : Bytes) → left ≡ Some bytes → (text ≡ bytes) × (left' ≡ Some [])) → built false text ≡ Ok (what workload) → first_later 1 (lines_of text) ≡ None → ReadsText (stream_change left left' f f') (Ok workload)
+pub built_text : (left left' : Option Bytes) (f f' : ℕ) (Q : Type 0) (text : Bytes) (workload : Workload) → Counts f f' Q → ((bytes : Bytes) → left ≡ Some bytes → (text ≡ bytes) × (left' ≡ Some [])) → built false text ≡ Ok (what workload) → is_played (what workload) ≡ true → ReadsText (stream_change left left' f f') (Ok workload)
 built_text left left' f f' Q text workload c h b l = record {
-  answer = λ bytes e. let k = h bytes e in inr (inr (subst (λ (t : Bytes). SaysText (playable t) (Ok workload)) k.0 (subst (λ (r : Result Built Fault). SaysText r (Ok workload)) (sym (good_playable text (what workload) None b l)) refl)));
+  answer = λ bytes e. let k = h bytes e in inr (inr (subst (λ (t : Bytes). SaysText (playable t) (Ok workload)) k.0 (subst (λ (r : Result Built Fault). SaysText r (Ok workload)) (sym (good_playable text (what workload) true b l)) refl)));
   kind = tt;
   count = no_fault (Ok workload ≡ Err SourceFault) Q f f' c (λ p. cc);
   read = λ bytes e le r. let k = h bytes e in k.1;
 }
 
-pub later_text : (left left' : Option Bytes) (f f' : ℕ) (Q : Type 0) (text : Bytes) (w : Built) (line : ℕ) → Counts f f' Q → ((bytes : Bytes) → left ≡ Some bytes → (text ≡ bytes) × (left' ≡ Some [])) → built false text ≡ Ok w → first_later 1 (lines_of text) ≡ Some line → ReadsText (stream_change left left' f f') (Err (NotBuilt line))
-later_text left left' f f' Q text w line c h b l = refused_text left left' f f' Q text (NotBuilt line) c h (good_playable text w (Some line) b l) tt (λ p. cc)
+pub later_text : (left left' : Option Bytes) (f f' : ℕ) (Q : Type 0) (text : Bytes) (w : Built) (line : ℕ) → Counts f f' Q → ((bytes : Bytes) → left ≡ Some bytes → (text ≡ bytes) × (left' ≡ Some [])) → built false text ≡ Ok w → is_played w ≡ false → line ≡ or_zero (first_later 1 (lines_of text)) → ReadsText (stream_change left left' f f') (Err (NotBuilt line))
+later_text left left' f f' Q text w line c h b l n = refused_text left left' f f' Q text (NotBuilt line) c h (good_playable text w false b l ∙ ap (λ (k : ℕ). unread_built (NotBuilt k)) (sym n)) tt (λ p. cc)
 
 pub bad_text : (left left' : Option Bytes) (f f' : ℕ) (Q : Type 0) (text : Bytes) (line : ℕ) (kind : TextKind) → Counts f f' Q → ((bytes : Bytes) → left ≡ Some bytes → (text ≡ bytes) × (left' ≡ Some [])) → built false text ≡ Err (Refused line kind) → ReadsText (stream_change left left' f f') (Err (TextRefused line kind))
 bad_text left left' f f' Q text line kind c h b = refused_text left left' f f' Q text (TextRefused line kind) c h (bad_playable text line kind b) tt (λ p. cc)

@@ -2,6 +2,7 @@
 use Rattle.std.specs.Prelude.{ℕ, ◌+◌, Bool, true, false, not, ◌&&◌, ◌||◌, List, [], ◌∷◌, length}
 use Rattle.std.specs.Prelude.{Option, Some, None, Result, Ok, Err, codes, nat_eq, nat_le, nat_lt}
 use Rattle.std.specs.Prelude.{slice_index, if◌then◌else◌}
+use Rattle.std.specs.List.{list_all}
 use Rattle.fb_bytes.specs.Bytes.{Bytes, is_same}
 use Rattle.workload_text.specs.declared.Keyword.{Keyword}
 use Rattle.workload_text.specs.declared.Keyword.TheVariants as words
@@ -11,10 +12,13 @@ use Rattle.workload_text.specs.declared.EventKind.{EventKind}
 use Rattle.workload_text.specs.declared.EventKind.TheVariants as events
 use Rattle.workload_text.specs.declared.SettingKind.{SettingKind}
 use Rattle.workload_text.specs.declared.SettingKind.TheVariants as settings
+use Rattle.workload_text.specs.declared.ClientScript.{ClientScript}
 use Rattle.workload_text.specs.declared.TextFault.{TextFault}
 use Rattle.workload_text.specs.declared.TextFault.TheVariants as faults
+use Rattle.workload_text.specs.Allowed.{writes}
 use Rattle.workload_text.specs.Grammar.{Built, built}
 use Rattle.workload_text.specs.Keywords.{keyword_of}
+use Rattle.workload_text.specs.Kinds.{kind_of, event_kind_of}
 use Rattle.workload_text.specs.Texts.{lines_of, words_of}
 use Rattle.fb_cli.specs.declared.fault.Fault.{Fault}
 use Rattle.fb_cli.specs.declared.fault.Fault.TheVariants.{TextRefused, NoMemory, NotBuilt}
@@ -85,14 +89,26 @@ abbrev pub refusal_of_text : TextFault → Fault
 refusal_of_text (faults.Refused line kind) = TextRefused line kind
 refusal_of_text faults.NoMemory = NoMemory
 
-abbrev pub played_unless : Option ℕ → Built → Result Built Fault
-played_unless None what = Ok what
-played_unless (Some line) what = Err (NotBuilt line)
+abbrev pub or_zero : Option ℕ → ℕ
+or_zero None = 0
+or_zero (Some line) = line
 
-abbrev pub unless_later : Option ℕ → Result Built TextFault → Result Built Fault
-unless_later later (Ok what) = played_unless later what
-unless_later later (Err fault) = Err (refusal_of_text fault)
+abbrev pub are_writes : ClientScript → Bool
+are_writes script = list_all (list_all writes) script.txns
+
+-- whether all that a workload says is played
+abbrev pub is_played : Built → Bool
+is_played what =
+    nat_lt what.settings.pace 5000 && nat_le (length what.clients) 1
+    && list_all are_writes what.clients
+    && list_all (λ command. not (is_later_command (kind_of command))) what.operator
+    && list_all (λ event. not (is_later_event (event_kind_of event))) what.schedule
+
+abbrev pub playable_of : List Bytes → Result Built TextFault → Result Built Fault
+playable_of lines (Ok what) =
+    if is_played what then Ok what else Err (NotBuilt (or_zero (first_later 1 lines)))
+playable_of lines (Err fault) = Err (refusal_of_text fault)
 
 -- The workload that is played for a text, or why none is: a refusal of the text comes first.
 abbrev pub playable : Bytes → Result Built Fault
-playable text = unless_later (first_later 1 (lines_of text)) (built false text)
+playable text = playable_of (lines_of text) (built false text)

@@ -1,13 +1,68 @@
 //! What the program reads and doesn't play yet.
 
-ghost use Rattle.std.specs.Prelude.{◌≡◌, ◌<◌, ◌^◌, length};
+ghost use Rattle.std.specs.Prelude.{◌≡◌, ◌<◌, ◌^◌, length, not};
+ghost use Rattle.std.specs.List.{list_all};
+ghost use Rattle.workload_text.specs.Allowed.{writes};
+ghost use Rattle.workload_text.specs.Grammar.{what};
+ghost use Rattle.workload_text.specs.Kinds.{kind_of, event_kind_of};
 ghost use Rattle.workload_text.specs.Texts.{lines_of, words_of};
 ghost use Rattle.fb_cli.specs.Later as spec;
 
 use fb_bytes::is_same;
+use mutations::{TxOp, TxOps};
 use workload_text::{
-    CommandKind, EventKind, Keyword, SettingKind, first_line, first_word, keyword_of,
+    ClientScript, Command, CommandKind, EventKind, Keyword, ScheduleLine, SettingKind, Workload,
+    first_line, first_word, keyword_of,
 };
+
+/// Whether all that a workload says is played.
+pub fn is_played(workload: &Workload) -> bool
+    ensures { result ≡ spec.is_played (what workload.now) }
+{
+    workload.settings.pace < 5000
+        && workload.clients.as_slice().len() <= 1
+        && have_writes(workload.clients.as_slice())
+        && are_commands(workload.operator.as_slice())
+        && are_events(workload.schedule.as_slice())
+}
+
+fn have_writes(clients: &[ClientScript]) -> bool
+    ensures { result ≡ list_all spec.are_writes clients.now }
+{
+    clients
+        .iter()
+        .all(|client| are_writes(client.txns.as_slice()))
+}
+
+fn are_writes(txns: &[TxOps]) -> bool
+    ensures { result ≡ list_all (list_all writes) txns.now }
+{
+    txns.iter().all(|ops| have_no_reads(ops.as_slice()))
+}
+
+fn have_no_reads(ops: &[TxOp]) -> bool
+    ensures { result ≡ list_all writes ops.now }
+{
+    ops.iter().all(|op| matches!(op, TxOp::Write(_)))
+}
+
+fn are_commands(commands: &[Command]) -> bool
+    ensures { result ≡ list_all (λ command. not (spec.is_later_command (kind_of command)))
+        commands.now }
+{
+    commands
+        .iter()
+        .all(|command| !is_later_command(CommandKind::of(command)))
+}
+
+fn are_events(events: &[ScheduleLine]) -> bool
+    ensures { result ≡ list_all (λ event. not (spec.is_later_event (event_kind_of event)))
+        events.now }
+{
+    events
+        .iter()
+        .all(|event| !is_later_event(EventKind::of(event)))
+}
 
 /// The first line of a text that isn't played yet, counted from 1.
 pub fn first_later(text: &[u8]) -> Option<u64>

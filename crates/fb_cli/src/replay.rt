@@ -10,7 +10,7 @@ ghost use Rattle.fb_cli.specs.Runs.{event_of, command_of, next_kind, schedule_of
 ghost use Rattle.fb_cli.specs.Replays.{IsPlayed, Replays, OwesStore, ReadsText};
 
 use crate::fault::{Fault, last_fault};
-use crate::later::first_later;
+use crate::later::{first_later, is_played};
 use cluster_core::{Answer, Event, StepFault, World, faithful_law};
 use fb_bytes::Seq;
 use fb_outside::{ReadFault, Source, Vault, read_all};
@@ -65,10 +65,13 @@ fn read_text<S: Source>(alloc: Global, source: &mut S) -> Result<Workload, Fault
         Err(ReadFault::NoMemory) => return Err(Fault::NoMemory),
     };
     match read_workload(alloc, text.as_slice(), false) {
-        Ok(workload) => match first_later(text.as_slice()) {
-            Some(line) => Err(Fault::NotBuilt { line }),
-            None => Ok(workload),
-        },
+        Ok(workload) => {
+            if is_played(&workload) {
+                return Ok(workload);
+            }
+            let line = first_later(text.as_slice()).unwrap_or(0);
+            Err(Fault::NotBuilt { line })
+        }
         Err(TextFault::Refused { line, kind }) => Err(Fault::TextRefused { line, kind }),
         Err(TextFault::NoMemory) => Err(Fault::NoMemory),
     }

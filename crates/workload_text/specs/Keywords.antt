@@ -32,7 +32,7 @@ plain_keyword word =
 abbrev pub keyword_of : Bytes → Option Keyword
 keyword_of word =
     plain_keyword word
-    or_else option_map (λ op. words.Write (writes.Atomic op)) (op_of_word word)
     or_else option_map words.Event (event_of_word word)
+    or_else option_map (λ op. words.Write (writes.Atomic op)) (op_of_word word)
     or_else option_map words.Command (command_of_word word)
     or_else option_map words.Setting (setting_of_word word)

@@ -48,11 +48,11 @@ pub fn keyword_of(word: &[u8]) -> Option<Keyword>
     if let Some(keyword) = plain_keyword(word) {
         return Some(keyword);
     }
-    if let Some(op) = Op::from_word(word) {
-        return Some(Keyword::Write(WriteKind::Atomic(op)));
-    }
     if let Some(kind) = event_of_word(word) {
         return Some(Keyword::Event(kind));
+    }
+    if let Some(op) = Op::from_word(word) {
+        return Some(Keyword::Write(WriteKind::Atomic(op)));
     }
     if let Some(kind) = command_of_word(word) {
         return Some(Keyword::Command(kind));
