@@ -2,6 +2,7 @@ ghost use Rattle.std.specs.Prelude.{◌≡◌};
 ghost use Rattle.cluster_core.specs.declared.event.StepFault.TheVariants.{NoMemory};
 
 use crate::{JobState, Refusal};
+use task_kinds::Kind;
 use client_core::Outcome;
 use fb_bytes::Text;
 use std::alloc::AllocError;
@@ -26,14 +27,38 @@ pub enum Answer {
     Read { version: u64 },
     /// What became of a try to commit.
     Outcome(Outcome),
+    /// Time passed; the newest version.
+    Version { version: u64 },
+    /// There is no task to claim.
+    NoTask,
+    /// Agents claim nothing while they are paused.
+    Paused,
+    /// The agent claimed this task, and has it until that version.
+    Task { uid: u64, kind: Kind, until: u64 },
+    /// The agent has its task until that version.
+    Until { until: u64 },
+    /// The agent took what it is to place, and the ticket for it.
+    Taken { ticket: u64 },
     /// The command is done.
     Done,
-    /// The command's file was put under this name, its container's folder included.
+    /// A file was put under this name, its container's folder included.
     Placed { name: Text },
+    /// What the agent is to load is there.
+    Loaded,
+    /// The agent closed its task.
+    Closed { uid: u64 },
+    /// Another agent has the task by now, or it is gone.
+    Interrupted { uid: u64 },
+    /// The agent is dead.
+    Dead,
+    /// The command goes on with the operator's next step.
+    Going,
     /// The command was refused.
     Refused(Refusal),
     /// The state of the newest job with the tag. None where no job has it.
     State { state: Option<JobState> },
+    /// By how many versions the copy is behind. None where that can't be said.
+    Lag { lag: Option<u64> },
 }
 
 /// Why a step was refused.
@@ -44,6 +69,8 @@ pub enum StepFault {
     VaultFault,
     /// The step would take a version past the greatest one; the version is the newest.
     VersionsSpent { version: u64 },
+    /// The entry that the step would make has too many bytes for a job's log.
+    LogTooLarge { bytes: u64 },
     /// There was no memory for the step.
     NoMemory,
 }

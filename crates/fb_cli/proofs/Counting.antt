@@ -64,6 +64,7 @@ one_more (Err steps.VaultFault) a b c n k h s =
       | inr most ↦ inr (omega arith)
     ]
 one_more (Err (steps.VersionsSpent version)) a b c n k h s = let l : a ≤ b = k.later in elim s [ inl t ↦ inl (omega arith) | inr e ↦ inr e ]
+one_more (Err (steps.LogTooLarge bytes)) a b c n k h s = let l : a ≤ b = k.later in elim s [ inl t ↦ inl (omega arith) | inr e ↦ inr e ]
 one_more (Err steps.NoMemory) a b c n k h s = let l : a ≤ b = k.later in elim s [ inl t ↦ inl (omega arith) | inr e ↦ inr e ]
 
 sum_of : (lines : List EventLine) (a c : ℕ) → RoseInEach lines a c → RoseBy (vault_faults lines) a c

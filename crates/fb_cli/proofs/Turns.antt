@@ -65,6 +65,7 @@ played_answer : (answer : Result Answer StepFault) → (answer ≡ Err steps.NoM
 played_answer (Ok answer) h = tt
 played_answer (Err steps.VaultFault) h = tt
 played_answer (Err (steps.VersionsSpent version)) h = tt
+played_answer (Err (steps.LogTooLarge bytes)) h = tt
 played_answer (Err steps.NoMemory) h = absurd (h refl)
 
 -- a run that is told was played to its end

@@ -13,7 +13,7 @@ use Rattle.report_text.specs.Lines.{behind}
 use Rattle.fb_cli.specs.declared.fault.Fault.{Fault}
 use Rattle.fb_cli.specs.declared.fault.Fault.TheVariants.{Usage, TextRefused}
 use Rattle.fb_cli.specs.declared.fault.Fault.TheVariants.{SourceFault, SinkFault, VaultFault}
-use Rattle.fb_cli.specs.declared.fault.Fault.TheVariants.{NotRestorable, Damaged, VersionsSpent}
+use Rattle.fb_cli.specs.declared.fault.Fault.TheVariants.{NotRestorable, Damaged, VersionsSpent, LogTooLarge}
 use Rattle.fb_cli.specs.declared.fault.Fault.TheVariants.{NoMemory, NoContainer, Missing, NotBuilt}
 
 -- the status that a command ends with
@@ -31,6 +31,7 @@ status_of (Some NoMemory) = 12
 status_of (Some NoContainer) = 13
 status_of (Some (Missing name)) = 14
 status_of (Some (NotBuilt line)) = 15
+status_of (Some (LogTooLarge bytes)) = 19
 
 -- the line of a refusal; two have none
 abbrev pub refusal_line : Option Fault → Bytes
@@ -43,6 +44,8 @@ refusal_line (Some SinkFault) = []
 refusal_line (Some VaultFault) = codes "refused vault-fault\n"
 refusal_line (Some (VersionsSpent version)) =
     codes "refused versions-spent " ++ decimal version ++ codes "\n"
+refusal_line (Some (LogTooLarge bytes)) =
+    codes "refused log-too-large " ++ decimal bytes ++ codes "\n"
 refusal_line (Some (NotRestorable low high)) =
     codes "refused not-restorable "
     ++ (number_or_none low ++ (codes " " ++ (number_or_none high ++ codes "\n")))
@@ -59,6 +62,7 @@ abbrev pub fault_of : Result Answer StepFault → Option Fault
 fault_of (Ok answer) = None
 fault_of (Err steps.VaultFault) = Some VaultFault
 fault_of (Err (steps.VersionsSpent version)) = Some (VersionsSpent version)
+fault_of (Err (steps.LogTooLarge bytes)) = Some (LogTooLarge bytes)
 fault_of (Err steps.NoMemory) = Some NoMemory
 
 -- the refusal by the answer of the last event; the answers before it have no say

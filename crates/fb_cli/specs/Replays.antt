@@ -13,13 +13,14 @@ use Rattle.fb_cli.specs.Runs.{IsRunReport, fault_in}
 use Rattle.fb_cli.specs.declared.fault.Fault.{Fault}
 use Rattle.fb_cli.specs.declared.fault.Fault.TheVariants.{Usage, TextRefused, SourceFault}
 use Rattle.fb_cli.specs.declared.fault.Fault.TheVariants.{VaultFault}
-use Rattle.fb_cli.specs.declared.fault.Fault.TheVariants.{VersionsSpent, NoMemory, NotBuilt}
+use Rattle.fb_cli.specs.declared.fault.Fault.TheVariants.{VersionsSpent, LogTooLarge, NoMemory, NotBuilt}
 
 -- The schedule was played to its end: there is no refusal but one of its last step.
 abbrev pub IsPlayed : Option Fault → Type 0
 IsPlayed None = Unit {0}
 IsPlayed (Some VaultFault) = Unit {0}
 IsPlayed (Some (VersionsSpent version)) = Unit {0}
+IsPlayed (Some (LogTooLarge bytes)) = Unit {0}
 IsPlayed fault = ⊥
 
 -- The text isn't played.
@@ -39,6 +40,7 @@ abbrev pub ReadsAll : Option Fault → Type 0
 ReadsAll None = Unit {0}
 ReadsAll (Some VaultFault) = Unit {0}
 ReadsAll (Some (VersionsSpent version)) = Unit {0}
+ReadsAll (Some (LogTooLarge bytes)) = Unit {0}
 ReadsAll fault = IsRefused fault
 
 -- the refusals that reading a text may come to
@@ -52,6 +54,7 @@ IsOfReading fault = IsRefused fault
 abbrev pub IsOfReplay : Option Fault → Type 0
 IsOfReplay (Some VaultFault) = Unit {0}
 IsOfReplay (Some (VersionsSpent version)) = Unit {0}
+IsOfReplay (Some (LogTooLarge bytes)) = Unit {0}
 IsOfReplay fault = IsOfReading fault
 
 -- What a text is answered: one that can be played is played, another one has its refusal; want of

@@ -31,6 +31,8 @@ pub enum Fault {
     Damaged { name: Text, fault: FileFault },
     /// The last step would take a version past the greatest one; the version is the newest.
     VersionsSpent { version: u64 },
+    /// The last step's entry has too many bytes for a job's log.
+    LogTooLarge { bytes: u64 },
     /// There was no memory.
     NoMemory,
     /// The container has no file.
@@ -59,6 +61,7 @@ pub fn status_of(fault: &Option<Fault>) -> u8
         Some(Fault::NoContainer) => 13,
         Some(Fault::Missing { .. }) => 14,
         Some(Fault::NotBuilt { .. }) => 15,
+        Some(Fault::LogTooLarge { .. }) => 19,
     }
 }
 
@@ -82,6 +85,7 @@ fn fault_of(answer: &Result<Answer, StepFault>) -> Option<Fault>
         Err(StepFault::VersionsSpent { version }) => Some(Fault::VersionsSpent {
             version: *version,
         }),
+        Err(StepFault::LogTooLarge { bytes }) => Some(Fault::LogTooLarge { bytes: *bytes }),
         Err(StepFault::NoMemory) => Some(Fault::NoMemory),
     }
 }
@@ -113,6 +117,9 @@ pub fn push_refusal(alloc: Global, out: &mut Blob, fault: &Option<Fault>) -> Res
         Some(Fault::Damaged { name, fault }) => push_damaged(alloc, out, name, fault),
         Some(Fault::VersionsSpent { version }) => {
             push_number(out, b"refused versions-spent ", *version, b"\n")
+        }
+        Some(Fault::LogTooLarge { bytes }) => {
+            push_number(out, b"refused log-too-large ", *bytes, b"\n")
         }
         Some(Fault::NoContainer) => out.extend_from_slice(b"refused no-container\n"),
         Some(Fault::Missing { name }) => push_missing(out, name),

@@ -6,21 +6,26 @@ use Rattle.fb_bytes.specs.Words.{printed}
 use Rattle.workload_text.specs.declared.ScheduleLine.{ScheduleLine}
 use Rattle.workload_text.specs.declared.ScheduleLine.TheVariants as events
 use Rattle.task_kinds.specs.declared.JobState.{JobState}
+use Rattle.task_kinds.specs.Kinds.{word_of}
 use Rattle.cluster_core.specs.declared.Refusal.{Refusal}
 use Rattle.cluster_core.specs.declared.Refusal.TheVariants.{TagBusy, ContainerTaken, ContainerInUse}
 use Rattle.cluster_core.specs.declared.Refusal.TheVariants.{NoJob, WrongState, OutsideRanges}
 use Rattle.cluster_core.specs.declared.Refusal.TheVariants.{Overlap, NothingNew, Untiled}
 use Rattle.cluster_core.specs.declared.Answer.{Answer}
 use Rattle.cluster_core.specs.declared.Answer.TheVariants.{Nothing, Read, Outcome, Done, Placed}
-use Rattle.cluster_core.specs.declared.Answer.TheVariants.{Refused, State}
+use Rattle.cluster_core.specs.declared.Answer.TheVariants.{Version, NoTask, Paused, Task, Until}
+use Rattle.cluster_core.specs.declared.Answer.TheVariants.{Taken, Loaded, Closed, Interrupted, Dead}
+use Rattle.cluster_core.specs.declared.Answer.TheVariants.{Going, Refused, State, Lag}
 use Rattle.cluster_core.specs.declared.StepFault.{StepFault}
-use Rattle.cluster_core.specs.declared.StepFault.TheVariants.{VaultFault, VersionsSpent, NoMemory}
+use Rattle.cluster_core.specs.declared.StepFault.TheVariants.{VaultFault, VersionsSpent, LogTooLarge}
+use Rattle.cluster_core.specs.declared.StepFault.TheVariants.{NoMemory}
 use Rattle.workload_text.specs.declared.CommandKind.{CommandKind}
 use Rattle.workload_text.specs.Kinds.{command_word}
 use Rattle.report_text.specs.declared.report.EventLine.{EventLine}
 use Rattle.report_text.specs.Lines.{line}
 use Rattle.report_text.specs.Outcomes.{end_words}
 use Rattle.report_text.specs.Jobs.{state_word}
+use Rattle.report_text.specs.Descriptions.{number_or_none}
 
 -- no word where no command was left
 abbrev pub command_words : Option CommandKind → List Bytes
@@ -64,15 +69,29 @@ abbrev pub answer_words : Answer → List Bytes
 answer_words Nothing = codes "none" ∷ []
 answer_words (Read version) = codes "read" ∷ decimal version ∷ []
 answer_words (Outcome outcome) = end_words outcome.end
-answer_words Done = codes "done" ∷ []
+answer_words (Version version) = codes "version" ∷ decimal version ∷ []
+answer_words NoTask = codes "no-task" ∷ []
+answer_words Paused = codes "paused" ∷ []
+answer_words (Task uid kind until) =
+    codes "task" ∷ decimal uid ∷ word_of kind ∷ codes "until" ∷ decimal until ∷ []
+answer_words (Until until) = codes "until" ∷ decimal until ∷ []
+answer_words (Taken ticket) = codes "taken" ∷ decimal ticket ∷ []
 answer_words (Placed name) = codes "placed" ∷ name ∷ []
+answer_words Loaded = codes "loaded" ∷ []
+answer_words (Closed uid) = codes "closed" ∷ decimal uid ∷ []
+answer_words (Interrupted uid) = codes "interrupted" ∷ decimal uid ∷ []
+answer_words Dead = codes "dead" ∷ []
+answer_words Done = codes "done" ∷ []
+answer_words Going = codes "going" ∷ []
 answer_words (Refused refusal) = codes "refused" ∷ refusal_words refusal
 answer_words (State state) = status_word state ∷ []
+answer_words (Lag lag) = codes "lag" ∷ number_or_none lag ∷ []
 
 -- why a step was refused
 abbrev pub step_fault_words : StepFault → List Bytes
 step_fault_words VaultFault = codes "vault-fault" ∷ []
 step_fault_words (VersionsSpent version) = codes "versions-spent" ∷ decimal version ∷ []
+step_fault_words (LogTooLarge bytes) = codes "log-too-large" ∷ decimal bytes ∷ []
 step_fault_words NoMemory = codes "no-memory" ∷ []
 
 -- the answer, or the fault of a step that was refused

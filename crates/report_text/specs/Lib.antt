@@ -1,9 +1,9 @@
 pub mod Lines
 pub mod Outcomes
 pub mod Jobs
+pub mod Descriptions
 pub mod Events
 pub mod Entries
 pub mod Faults
 pub mod Restores
-pub mod Descriptions
 pub mod Reports

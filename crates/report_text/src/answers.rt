@@ -2,17 +2,20 @@
 
 ghost use Rattle.std.specs.Prelude.{◌≡◌, ◌≤◌, [], ◌∷◌, ◌++◌, codes, length, IfSome, OnOk};
 ghost use Rattle.fb_bytes.specs.Words.{printed};
+ghost use Rattle.cluster_core.specs.declared.Answer.TheVariants as answers;
 ghost use Rattle.report_text.specs.Lines.{behind};
 ghost use Rattle.report_text.specs.Jobs as spec;
 ghost use Rattle.report_text.specs.Events.{refusal_words, status_word, answer_words, step_fault_words, reply_words};
 
+use crate::described::put_number_or_none;
 use crate::jobs::state_word;
 use crate::outcomes::{end_of, put_end};
 use crate::tail::Tail;
-use crate::words::{put, put_bytes, put_last};
+use crate::words::{put, put_bytes, put_field, put_last};
 use cluster_core::{Answer, JobState, Refusal, StepFault};
 use fb_bytes::{Blob, Text};
 use std::alloc::{AllocError, Global};
+use task_kinds::Kind;
 
 /// What a step was answered, or why it was refused.
 pub fn put_reply(
@@ -47,11 +50,40 @@ fn put_answer(alloc: Global, out: &mut Blob, answer: &Answer) -> Result<(), Allo
         Answer::Nothing => put(out, b" none\n"),
         Answer::Read { version } => put_last(out, b" read ", *version),
         Answer::Outcome(outcome) => put_end(out, outcome.end),
+        Answer::Version { version } => put_last(out, b" version ", *version),
+        Answer::NoTask => put(out, b" no-task\n"),
+        Answer::Paused => put(out, b" paused\n"),
+        Answer::Task { uid, kind, until } => put_task(out, *uid, *kind, *until),
+        Answer::Until { until } => put_last(out, b" until ", *until),
+        Answer::Taken { ticket } => put_last(out, b" taken ", *ticket),
+        Answer::Loaded => put(out, b" loaded\n"),
+        Answer::Closed { uid } => put_last(out, b" closed ", *uid),
+        Answer::Interrupted { uid } => put_last(out, b" interrupted ", *uid),
+        Answer::Dead => put(out, b" dead\n"),
+        Answer::Going => put(out, b" going\n"),
+        Answer::Lag { lag } => put_lag(out, *lag),
         Answer::Done => put(out, b" done\n"),
         Answer::Placed { name } => put_name(out, b" placed ", name),
         Answer::Refused(refusal) => put_refused(alloc, out, refusal),
         Answer::State { state } => put_status(out, *state),
     }
+}
+
+fn put_task(out: &mut Blob, uid: u64, kind: Kind, until: u64) -> Result<(), AllocError>
+    ensures { OnOk result (out.new ≡ out.old ++ behind (answer_words (answers.Task uid kind until))) }
+{
+    put_field(out, b" task ", uid)?;
+    put(out, b" ")?;
+    put(out, kind.word().as_bytes())?;
+    put_last(out, b" until ", until)
+}
+
+fn put_lag(out: &mut Blob, lag: Option<u64>) -> Result<(), AllocError>
+    ensures { OnOk result (out.new ≡ out.old ++ behind (answer_words (answers.Lag lag))) }
+{
+    put(out, b" lag ")?;
+    put_number_or_none(out, lag)?;
+    put(out, b"\n")
 }
 
 fn put_refused(alloc: Global, out: &mut Blob, refusal: &Refusal) -> Result<(), AllocError>
@@ -93,6 +125,7 @@ fn put_step_fault(out: &mut Blob, fault: StepFault) -> Result<(), AllocError>
     match fault {
         StepFault::VaultFault => put(out, b" vault-fault\n"),
         StepFault::VersionsSpent { version } => put_last(out, b" versions-spent ", version),
+        StepFault::LogTooLarge { bytes } => put_last(out, b" log-too-large ", bytes),
         StepFault::NoMemory => put(out, b" no-memory\n"),
     }
 }
