@@ -2,10 +2,10 @@ ghost use Rattle.std.specs.Prelude.{◌≡◌};
 ghost use Rattle.cluster_core.specs.declared.event.StepFault.TheVariants.{NoMemory};
 
 use crate::{JobState, Refusal};
-use task_kinds::Kind;
 use client_core::Outcome;
 use fb_bytes::Text;
 use std::alloc::AllocError;
+use task_kinds::Kind;
 
 /// What may happen in the world. One event is one step.
 #[derive(Clone, Copy, Debug, PartialEq, Eq)]

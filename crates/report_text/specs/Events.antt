@@ -8,6 +8,7 @@ use Rattle.workload_text.specs.declared.ScheduleLine.TheVariants as events
 use Rattle.task_kinds.specs.declared.JobState.{JobState}
 use Rattle.task_kinds.specs.Kinds.{word_of}
 use Rattle.cluster_core.specs.declared.Refusal.{Refusal}
+use Rattle.cluster_core.specs.declared.Refusal.TheVariants as refusals
 use Rattle.cluster_core.specs.declared.Refusal.TheVariants.{TagBusy, ContainerTaken, ContainerInUse}
 use Rattle.cluster_core.specs.declared.Refusal.TheVariants.{NoJob, WrongState, OutsideRanges}
 use Rattle.cluster_core.specs.declared.Refusal.TheVariants.{Overlap, NothingNew, Untiled}
@@ -24,7 +25,8 @@ use Rattle.workload_text.specs.Kinds.{command_word}
 use Rattle.report_text.specs.declared.report.EventLine.{EventLine}
 use Rattle.report_text.specs.Lines.{line}
 use Rattle.report_text.specs.Outcomes.{end_words}
-use Rattle.report_text.specs.Jobs.{state_word}
+use Rattle.report_text.specs.Faults.{file_fault_words}
+use Rattle.report_text.specs.Jobs.{state_word, kind_word}
 use Rattle.report_text.specs.Descriptions.{number_or_none}
 
 -- no word where no command was left
@@ -53,11 +55,28 @@ refusal_words (TagBusy tag) = codes "tag-busy" ∷ tag ∷ []
 refusal_words (ContainerTaken tag) = codes "container-taken" ∷ tag ∷ []
 refusal_words (ContainerInUse name) = codes "container-in-use" ∷ name ∷ []
 refusal_words (NoJob tag) = codes "no-job" ∷ tag ∷ []
+refusal_words (refusals.WrongKind kind) = codes "wrong-kind" ∷ kind_word kind ∷ []
 refusal_words (WrongState state) = codes "wrong-state" ∷ state_word state ∷ []
 refusal_words (OutsideRanges key) = codes "outside-ranges" ∷ printed key ∷ []
 refusal_words (Overlap key) = codes "overlap" ∷ printed key ∷ []
 refusal_words (NothingNew version) = codes "nothing-new" ∷ decimal version ∷ []
 refusal_words (Untiled key) = codes "untiled" ∷ printed key ∷ []
+refusal_words refusals.Switching = codes "switching" ∷ []
+refusal_words refusals.Paused = codes "paused" ∷ []
+refusal_words (refusals.AheadOfNow now) = codes "ahead-of-now" ∷ decimal now ∷ []
+refusal_words (refusals.RestoreRunning tag) = codes "restore-running" ∷ tag ∷ []
+refusal_words refusals.NoContainer = codes "no-container" ∷ []
+refusal_words (refusals.NotRestorable min max) =
+    codes "not-restorable" ∷ number_or_none min ∷ number_or_none max ∷ []
+refusal_words (refusals.Damaged name fault) = codes "damaged" ∷ name ∷ file_fault_words fault
+refusal_words (refusals.Missing name) = codes "missing" ∷ name ∷ []
+refusal_words (refusals.CannotExpire wanted left) =
+    codes "cannot-expire" ∷ decimal wanted ∷ number_or_none left ∷ []
+refusal_words (refusals.SourceLocked uid) = codes "source-locked" ∷ decimal uid ∷ []
+refusal_words (refusals.DestinationLocked uid) = codes "destination-locked" ∷ decimal uid ∷ []
+refusal_words (refusals.DestinationNotEmpty key) =
+    codes "destination-not-empty" ∷ printed key ∷ []
+refusal_words (refusals.NotCopied applied) = codes "not-copied" ∷ decimal applied ∷ []
 
 -- the state of the newest job with a tag, where there is one
 abbrev pub status_word : Option JobState → Bytes

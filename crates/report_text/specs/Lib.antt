@@ -2,8 +2,9 @@ pub mod Lines
 pub mod Outcomes
 pub mod Jobs
 pub mod Descriptions
+pub mod Faults
 pub mod Events
 pub mod Entries
-pub mod Faults
 pub mod Restores
 pub mod Reports
+pub mod inner

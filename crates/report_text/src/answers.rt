@@ -3,16 +3,21 @@
 ghost use Rattle.std.specs.Prelude.{◌≡◌, ◌≤◌, [], ◌∷◌, ◌++◌, codes, length, IfSome, OnOk};
 ghost use Rattle.fb_bytes.specs.Words.{printed};
 ghost use Rattle.cluster_core.specs.declared.Answer.TheVariants as answers;
+ghost use Rattle.report_text.specs.Descriptions.{number_or_none};
+ghost use Rattle.report_text.specs.Faults.{file_fault_words};
+ghost use Rattle.report_text.specs.inner.Fields.{field_words};
 ghost use Rattle.report_text.specs.Lines.{behind};
 ghost use Rattle.report_text.specs.Jobs as spec;
 ghost use Rattle.report_text.specs.Events.{refusal_words, status_word, answer_words, step_fault_words, reply_words};
 
 use crate::described::put_number_or_none;
-use crate::jobs::state_word;
+use crate::faults::put_file_fault;
+use crate::jobs::{kind_word, state_word};
 use crate::outcomes::{end_of, put_end};
 use crate::tail::Tail;
 use crate::words::{put, put_bytes, put_field, put_last};
 use cluster_core::{Answer, JobState, Refusal, StepFault};
+use container_view::FileFault;
 use fb_bytes::{Blob, Text};
 use std::alloc::{AllocError, Global};
 use task_kinds::Kind;
@@ -97,17 +102,93 @@ fn put_refused(alloc: Global, out: &mut Blob, refusal: &Refusal) -> Result<(), A
 fn put_refusal(alloc: Global, out: &mut Blob, refusal: &Refusal) -> Result<(), AllocError>
     ensures { OnOk result (out.new ≡ out.old ++ behind (refusal_words refusal.now)) }
 {
+    let (word, fields) = parts_of(refusal);
+    put(out, b" ")?;
+    put(out, word.as_bytes())?;
+    put_fields(alloc, out, fields)
+}
+
+/// What stands behind the word of a refusal.
+#[derive(Clone, Copy, Debug)]
+enum Fields<'a> {
+    Nothing,
+    Number(u64),
+    Numbers(Option<u64>, Option<u64>),
+    Word(&'static str),
+    Name(&'a Text),
+    Key(&'a Blob),
+    Damage(&'a Text, &'a FileFault),
+}
+
+/// The word of a refusal, and what stands behind it.
+fn parts_of(refusal: &Refusal) -> (&'static str, Fields<'_>)
+    ensures { refusal_words refusal.now ≡ result.0.now ∷ field_words result.1 }
+{
     match refusal {
-        Refusal::TagBusy { tag } => put_name(out, b" tag-busy ", tag),
-        Refusal::ContainerTaken { tag } => put_name(out, b" container-taken ", tag),
-        Refusal::ContainerInUse { name } => put_name(out, b" container-in-use ", name),
-        Refusal::NoJob { tag } => put_name(out, b" no-job ", tag),
-        Refusal::WrongState { state } => put_state(out, b" wrong-state ", *state),
-        Refusal::OutsideRanges { key } => put_key(alloc, out, b" outside-ranges ", key),
-        Refusal::Overlap { key } => put_key(alloc, out, b" overlap ", key),
-        Refusal::NothingNew { version } => put_last(out, b" nothing-new ", *version),
-        Refusal::Untiled { key } => put_key(alloc, out, b" untiled ", key),
+        Refusal::TagBusy { tag } => ("tag-busy", Fields::Name(tag)),
+        Refusal::ContainerTaken { tag } => ("container-taken", Fields::Name(tag)),
+        Refusal::ContainerInUse { name } => ("container-in-use", Fields::Name(name)),
+        Refusal::NoJob { tag } => ("no-job", Fields::Name(tag)),
+        Refusal::WrongKind { kind } => ("wrong-kind", Fields::Word(kind_word(*kind))),
+        Refusal::WrongState { state } => ("wrong-state", Fields::Word(state_word(*state))),
+        Refusal::OutsideRanges { key } => ("outside-ranges", Fields::Key(key)),
+        Refusal::Overlap { key } => ("overlap", Fields::Key(key)),
+        Refusal::NothingNew { version } => ("nothing-new", Fields::Number(*version)),
+        Refusal::Untiled { key } => ("untiled", Fields::Key(key)),
+        Refusal::Switching => ("switching", Fields::Nothing),
+        Refusal::Paused => ("paused", Fields::Nothing),
+        Refusal::AheadOfNow { now } => ("ahead-of-now", Fields::Number(*now)),
+        Refusal::RestoreRunning { tag } => ("restore-running", Fields::Name(tag)),
+        Refusal::NoContainer => ("no-container", Fields::Nothing),
+        Refusal::NotRestorable { min, max } => ("not-restorable", Fields::Numbers(*min, *max)),
+        Refusal::Damaged { name, fault } => ("damaged", Fields::Damage(name, fault)),
+        Refusal::Missing { name } => ("missing", Fields::Name(name)),
+        Refusal::CannotExpire { wanted, left } => {
+            ("cannot-expire", Fields::Numbers(Some(*wanted), *left))
+        }
+        Refusal::SourceLocked { uid } => ("source-locked", Fields::Number(*uid)),
+        Refusal::DestinationLocked { uid } => ("destination-locked", Fields::Number(*uid)),
+        Refusal::DestinationNotEmpty { key } => ("destination-not-empty", Fields::Key(key)),
+        Refusal::NotCopied { applied } => ("not-copied", Fields::Number(*applied)),
     }
+}
+
+fn put_fields(alloc: Global, out: &mut Blob, fields: Fields<'_>) -> Result<(), AllocError>
+    ensures { OnOk result (out.new ≡ out.old ++ behind (field_words fields.entry)) }
+{
+    match fields {
+        Fields::Nothing => put(out, b"\n"),
+        Fields::Number(number) => put_last(out, b" ", number),
+        Fields::Numbers(first, second) => put_numbers(out, first, second),
+        Fields::Word(word) => put_word(out, b" ", word),
+        Fields::Name(name) => put_name(out, b" ", name),
+        Fields::Key(key) => put_key(alloc, out, b" ", key),
+        Fields::Damage(name, fault) => put_damage(alloc, out, name, fault),
+    }
+}
+
+fn put_numbers(out: &mut Blob, first: Option<u64>, second: Option<u64>) -> Result<(), AllocError>
+    ensures { OnOk result
+        (out.new ≡ out.old ++ behind (number_or_none first ∷ number_or_none second ∷ [])) }
+{
+    put(out, b" ")?;
+    put_number_or_none(out, first)?;
+    put(out, b" ")?;
+    put_number_or_none(out, second)?;
+    put(out, b"\n")
+}
+
+fn put_damage(
+    alloc: Global,
+    out: &mut Blob,
+    name: &Text,
+    fault: &FileFault,
+) -> Result<(), AllocError>
+    ensures { OnOk result (out.new ≡ out.old ++ behind (name.now ∷ file_fault_words fault.now)) }
+{
+    put(out, b" ")?;
+    put(out, name.as_bytes())?;
+    put_file_fault(alloc, out, fault)
 }
 
 fn put_status(out: &mut Blob, state: Option<JobState>) -> Result<(), AllocError>
@@ -139,6 +220,14 @@ fn put_name(out: &mut Blob, text: &[u8], name: &Text) -> Result<(), AllocError>
     put(out, b"\n")
 }
 
+fn put_word(out: &mut Blob, text: &[u8], word: &str) -> Result<(), AllocError>
+    ensures { OnOk result (out.new ≡ out.old ++ (text.now ++ (word.now ++ 10 ∷ []))) }
+{
+    put(out, text)?;
+    put(out, word.as_bytes())?;
+    put(out, b"\n")
+}
+
 fn put_key(alloc: Global, out: &mut Blob, text: &[u8], key: &Blob) -> Result<(), AllocError>
     ensures { OnOk result (out.new ≡ out.old ++ (text.now ++ (printed key.now ++ 10 ∷ []))) }
 {
@@ -150,7 +239,5 @@ fn put_key(alloc: Global, out: &mut Blob, text: &[u8], key: &Blob) -> Result<(),
 fn put_state(out: &mut Blob, text: &[u8], state: JobState) -> Result<(), AllocError>
     ensures { OnOk result (out.new ≡ out.old ++ (text.now ++ (spec.state_word state ++ 10 ∷ []))) }
 {
-    put(out, text)?;
-    put(out, state_word(state).as_bytes())?;
-    put(out, b"\n")
+    put_word(out, text, state_word(state))
 }
