@@ -51,7 +51,7 @@ not_placed : (limit : ℕ) (r : Read Line) (setting : Setting) → IfOk r (IsLin
 not_placed limit r setting h e = let l : IsLine parts.Operator limit (lines.Setting setting) = subst (λ (o : Read Line). IfOk o (IsLine parts.Operator limit)) e h in l.0
 
 -- the limit on keys of the operator's says nothing of a setting
-limit_free : (a b : ℕ) (k : Keyword) (list : List Bytes) (setting : Setting) → said a k list ≡ Ok (lines.Setting setting) → said b k list ≡ Ok (lines.Setting setting)
+pub limit_free : (a b : ℕ) (k : Keyword) (list : List Bytes) (setting : Setting) → said a k list ≡ Ok (lines.Setting setting) → said b k list ≡ Ok (lines.Setting setting)
 limit_free a b (words.Setting kind) list setting h = h
 limit_free a b words.Death list setting h = h
 limit_free a b words.Stall list setting h = h

@@ -10,3 +10,5 @@ pub mod Running
 pub mod Soundness
 pub mod Ready
 pub mod Again
+pub mod Taking
+pub mod Only

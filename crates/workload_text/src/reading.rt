@@ -5,7 +5,7 @@ ghost use Rattle.workload_text.specs.declared.text_fault.TextFault.TheVariants a
 ghost use Rattle.workload_text.specs.declared.text_fault.TextKind.TheVariants as kinds;
 ghost use Rattle.workload_text.specs.Texts.{lines_of};
 ghost use Rattle.workload_text.specs.Sofar as spec;
-ghost use Rattle.workload_text.specs.Grammar.{what, built, most_bytes};
+ghost use Rattle.workload_text.specs.Grammar.{Built, what, built, most_bytes};
 ghost use Rattle.workload_text.specs.Spelled.{IsTextOf};
 ghost use Rattle.workload_text.specs.inner.Ready.{IsReady};
 ghost use Rattle.workload_text.specs.inner.Seen.{sofar};
@@ -27,7 +27,17 @@ pub fn read_workload(alloc: Global, bytes: &[u8], run: bool) -> Result<Workload,
     ensures built { GivesBut faults.NoMemory what result (built run bytes.now) }
     // Read a second way: what is read is said by the lines of its text.
     ensures found { IfOk result (λ w. IsTextOf run bytes.now (what w)) }
+    // And each text whose lines say a workload is read, to that workload.
+    ensures only { (w : Built) → IsTextOf run bytes.now w
+        → GivesBut faults.NoMemory what result (Ok w) }
     // A text that is too long is refused before any memory is asked for.
+    ensures long { most_bytes < length bytes.now → result ≡ Err (faults.Refused 0 kinds.Long) }
+{
+    read(alloc, bytes, run)
+}
+
+fn read(alloc: Global, bytes: &[u8], run: bool) -> Result<Workload, TextFault>
+    ensures built { GivesBut faults.NoMemory what result (built run bytes.now) }
     ensures long { most_bytes < length bytes.now → result ≡ Err (faults.Refused 0 kinds.Long) }
 {
     if bytes.len() as u64 > MOST_BYTES {
