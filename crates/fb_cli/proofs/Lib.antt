@@ -6,3 +6,4 @@ pub mod Fronts
 pub mod Texts
 pub mod Replaying
 pub mod Restoring
+pub mod Listing

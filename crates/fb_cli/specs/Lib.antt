@@ -7,5 +7,7 @@ pub mod Later
 pub mod Replays
 pub mod Restores
 pub mod Describes
+pub mod Lists
+pub mod Requests
 pub mod Shows
 pub mod inner

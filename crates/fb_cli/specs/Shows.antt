@@ -1,52 +1,19 @@
--- Which words are a command, and what a command writes.
-use Rattle.std.specs.Prelude.{◌≡◌, ◌≤◌, ℕ, false, ◌&&◌, if◌then◌else◌, List, [], ◌∷◌, ◌++◌}
-use Rattle.std.specs.Prelude.{Option, Some, None, codes, ◌⊎◌}
-use Rattle.fb_bytes.specs.Bytes.{Bytes, is_same}
+-- What a command does, and what it writes.
+use Rattle.std.specs.Prelude.{◌≡◌, ◌≤◌, ℕ, Bool, [], ◌++◌, Option, Some, None, ◌⊎◌}
+use Rattle.fb_bytes.specs.Bytes.{Bytes}
 use Rattle.fb_outside.specs.Contents.{IsFrontOf}
 use Rattle.fb_outside.specs.Faults.{Rose}
-use Rattle.container_view.specs.Property.{property_of}
-use Rattle.workload_text.specs.Commands.{is_container_name}
 use Rattle.report_text.specs.declared.Report.{Report}
 use Rattle.report_text.specs.Reports.{report_text}
 use Rattle.fb_cli.specs.declared.fault.Fault.{Fault}
-use Rattle.fb_cli.specs.declared.fault.Fault.TheVariants.{NotBuilt}
+use Rattle.fb_cli.specs.declared.fault.Fault.TheVariants.{Usage, NotBuilt}
 use Rattle.fb_cli.specs.Faults.{status_of, refusal_line}
 use Rattle.fb_cli.specs.Outside.{Stream, Store, IsLeft}
 use Rattle.fb_cli.specs.Replays.{Replays}
 use Rattle.fb_cli.specs.Restores.{Restores}
 use Rattle.fb_cli.specs.Describes.{Describes}
-
--- ---- words
-
--- what words ask for
-pub data Request : Type 0 where
-  Replay : Request
-  Restore : (container : Bytes) (version : ℕ) → Request
-  Describe : (container : Bytes) → Request
-  Unknown : Request
-
--- a version's word: its number in decimal, at most 2^62
-abbrev pub version_of : Bytes → Option ℕ
-version_of word = property_of word
-
--- a restore of the version, where its word is one
-abbrev pub restore_at : Bytes → Option ℕ → Request
-restore_at container None = Unknown
-restore_at container (Some version) = Restore container version
-
--- A replay is `replay` alone; a restore is `restore`, a container and a version; a description is
--- `describe` and a container.
-abbrev pub request_of : List Bytes → Request
-request_of (word ∷ []) = if is_same word (codes "replay") then Replay else Unknown
-request_of (word ∷ container ∷ []) =
-    if is_same word (codes "describe") && is_container_name container
-    then Describe container
-    else Unknown
-request_of (word ∷ container ∷ version ∷ []) =
-    if is_same word (codes "restore") && is_container_name container
-    then restore_at container (version_of version)
-    else Unknown
-request_of words = Unknown
+use Rattle.fb_cli.specs.Lists.{Lists}
+use Rattle.fb_cli.specs.Requests.{Request, Replay, Restore, Describe, Listing, Later, Misused}
 
 -- ---- commands
 
@@ -71,37 +38,50 @@ pub record IsDescribe
   pub describes : Describes container store report fault
   pub unread : IsLeft source
 
--- Other words aren't built, whatever the source has; it isn't read.
-pub record IsUnknown
+-- A list of containers; the source isn't read.
+pub record IsListing
+    (source : Stream)
+    (store : Store)
+    (report : Option Report)
+    (fault : Option Fault) : Type 0 where
+  pub lists : Lists store report fault
+  pub unread : IsLeft source
+
+-- The words alone are refused, whatever the source has; it isn't read.
+pub record IsTurnedAway
+    (refusal : Fault)
     (source : Stream)
     (report : Option Report)
     (fault : Option Fault) : Type 0 where
-  pub refused : fault ≡ Some (NotBuilt 0)
+  pub refused : fault ≡ Some refusal
   pub silent : report ≡ None
   pub unread : IsLeft source
 
 -- what is asked for was done
 abbrev pub Does : Request → Stream → Store → Option Report → Option Fault → Type 0
-Does Replay source store report fault = Replays source store report fault
+Does (Replay brief) source store report fault = Replays source store report fault
 Does (Restore container version) source store report fault =
     IsRestore container version source store report fault
 Does (Describe container) source store report fault =
     IsDescribe container source store report fault
-Does Unknown source store report fault = IsUnknown source report fault
+Does Listing source store report fault = IsListing source store report fault
+Does Later source store report fault = IsTurnedAway (NotBuilt 0) source report fault
+Does Misused source store report fault = IsTurnedAway Usage source report fault
 
 -- ---- what is written
 
--- the text of a report, where there is one
-abbrev pub report_part : Option Report → Bytes
-report_part None = []
-report_part (Some report) = report_text false report
+-- the text of a report, where there is one, in brief or whole
+abbrev pub report_part : Bool → Option Report → Bytes
+report_part brief None = []
+report_part brief (Some report) = report_text brief report
 
 -- what is to be written: the report, and then the refusal's line
-abbrev pub shown : Option Report → Option Fault → Bytes
-shown report fault = report_part report ++ refusal_line fault
+abbrev pub shown : Bool → Option Report → Option Fault → Bytes
+shown brief report fault = report_part brief report ++ refusal_line fault
 
 -- All was written.
 pub record WritesAll
+    (brief : Bool)
     (sink : Stream)
     (report : Option Report)
     (fault : Option Fault)
@@ -109,10 +89,11 @@ pub record WritesAll
   pub status_is : status ≡ status_of fault
   pub later : sink.faults_before ≤ sink.faults_after
   pub all : (bytes : Bytes) → sink.before ≡ Some bytes →
-      sink.after ≡ Some (bytes ++ shown report fault)
+      sink.after ≡ Some (bytes ++ shown brief report fault)
 
 -- The sink failed, and holds a front of it.
 pub record SinkFails
+    (brief : Bool)
     (sink : Stream)
     (report : Option Report)
     (fault : Option Fault)
@@ -123,7 +104,7 @@ pub record SinkFails
   pub part : (bytes : Bytes) → sink.before ≡ Some bytes →
       (front : Bytes)
       × (sink.after ≡ Some (bytes ++ front))
-      × IsFrontOf (shown report fault) front
+      × IsFrontOf (shown brief report fault) front
 
 -- There was no memory for the text, and nothing was written.
 pub record WritesNone (sink : Stream) (status : ℕ) : Type 0 where
@@ -131,7 +112,7 @@ pub record WritesNone (sink : Stream) (status : ℕ) : Type 0 where
   pub same : IsLeft sink
 
 -- what a command's end leaves in the sink, and the status
-abbrev pub Shows : Stream → Option Report → Option Fault → ℕ → Type 0
-Shows sink report fault status =
-    WritesAll sink report fault status
-    ⊎ (SinkFails sink report fault status ⊎ WritesNone sink status)
+abbrev pub Shows : Bool → Stream → Option Report → Option Fault → ℕ → Type 0
+Shows brief sink report fault status =
+    WritesAll brief sink report fault status
+    ⊎ (SinkFails brief sink report fault status ⊎ WritesNone sink status)

@@ -1,13 +1,15 @@
-//! The program: reads the words, plays a workload over a file store, restores a container of it or
-//! tells what a container has, and prints the report.
+//! The program: reads the words, plays a workload over a file store, restores a container of it,
+//! tells what a container has or which containers there are, and prints the report.
 #![tactic(auto)]
 
 mod describe;
 mod fault;
 mod later;
+mod list;
 mod replay;
 mod restore;
 mod top;
+mod words;
 
 use fb_bytes::Text;
 use fb_outside::{FolderVault, ReaderSource, WriterSink};
@@ -35,9 +37,15 @@ fn main(rt: HostRuntime) -> ExitCode {
     ExitCode::from(exit.status)
 }
 
+// There are no words where one isn't UTF-8.
 fn words_of<R: Env + AllocGlobal>(rt: &R) -> io::Result<Vec<Text>> {
     let mut words = Vec::new(rt.alloc());
-    for word in env::args(rt)?.skip(1) {
+    let given = match env::args(rt) {
+        Ok(given) => given,
+        Err(error) if error.kind() == io::ErrorKind::InvalidData => return Ok(words),
+        Err(error) => return Err(error),
+    };
+    for word in given.skip(1) {
         words.push(Text::from_string(word))?;
     }
     Ok(words)

@@ -3,6 +3,7 @@
 mod damages;
 mod replays;
 mod restores;
+mod words;
 
 use crate::top::top;
 use fb_bytes::{Blob, Text, is_same};
@@ -175,5 +176,14 @@ fn each_container_is_read_as_its_row_says(rt: HostRuntime) -> Result<(), Fail> {
         good(rt.alloc(), restores::STORE_FAULTS)?,
         restores::STORE_FAULTS.len()
     );
+    Ok(())
+}
+
+#[test]
+fn each_list_of_words_is_answered_as_its_row_says(rt: HostRuntime) -> Result<(), Fail> {
+    assert_eq!(rt; good(rt.alloc(), words::MISUSED)?, words::MISUSED.len());
+    assert_eq!(rt; good(rt.alloc(), words::LATER)?, words::LATER.len());
+    assert_eq!(rt; good(rt.alloc(), words::BRIEF)?, words::BRIEF.len());
+    assert_eq!(rt; good(rt.alloc(), words::LISTS)?, words::LISTS.len());
     Ok(())
 }

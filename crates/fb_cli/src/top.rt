@@ -1,20 +1,21 @@
-ghost use Rattle.std.specs.Prelude.{◌≡◌, [], ◌∷◌, Option, IfOk};
+ghost use Rattle.std.specs.Prelude.{◌≡◌, Option, IfOk};
 ghost use Rattle.fb_cli.specs.declared.fault.Fault.{Fault};
 ghost use Rattle.fb_cli.specs.Outside.{stream_change, store_change};
 ghost use Rattle.fb_cli.specs.Replays.{OwesStore};
 ghost use Rattle.fb_cli.specs.inner.Words.{request_in};
-ghost use Rattle.fb_cli.specs.Shows.{request_of, Does, Shows, shown, report_part};
+ghost use Rattle.fb_cli.specs.Requests.{request_of, is_brief};
+ghost use Rattle.fb_cli.specs.Shows.{Does, Shows, shown, report_part};
 
 use crate::describe::describe_words;
 use crate::fault::{Fault, push_refusal, status_of};
+use crate::list::list_words;
 use crate::replay::{Ended, refused, replay};
 use crate::restore::restore_words;
-use container_view::read_property;
+use crate::words::{Asked, words_ask};
 use fb_bytes::{Blob, Text};
 use fb_outside::{Sink, Source, Vault, write_all};
 use report_text::{Report, report_bytes};
 use std::alloc::{AllocError, Global};
-use workload_text::is_container_name;
 
 /// How the program ends: its status, what it had to tell, and the file store.
 #[derive(Drop)]
@@ -34,19 +35,27 @@ pub fn top<S: Source, V: Vault, K: Sink>(
 ) -> Exit<V>
     ensures command { (fault : Option Fault)
         × Does (request_of words.now)
-        (stream_change (S.left source.old) (S.left source.new) (S.faults source.old) (S.faults source.new))
-        (store_change (V.files vault) (V.files result.vault) (V.faults vault) (V.faults result.vault))
+        (stream_change (S.left source.old) (S.left source.new) (S.faults source.old)
+        (S.faults source.new))
+        (store_change (V.files vault) (V.files result.vault) (V.faults vault)
+        (V.faults result.vault))
         result.report
         fault
-        × OwesStore (store_change (V.files vault) (V.files result.vault) (V.faults vault) (V.faults result.vault)) fault
+        × OwesStore
+        (store_change (V.files vault) (V.files result.vault) (V.faults vault)
+        (V.faults result.vault))
+        fault
         × Shows
+        (is_brief (request_of words.now))
         (stream_change (K.held sink.old) (K.held sink.new) (K.faults sink.old) (K.faults sink.new))
         result.report
         fault
         result.status }
 {
-    let ended = command(alloc, words, source, vault);
-    let status = show(alloc, sink, &ended.report, &ended.fault);
+    let asked = words_ask(words);
+    let brief = crate::words::is_brief(&asked);
+    let ended = command(alloc, asked, source, vault);
+    let status = show(alloc, sink, brief, &ended.report, &ended.fault);
     let Ended {
         status: _,
         report,
@@ -60,85 +69,50 @@ pub fn top<S: Source, V: Vault, K: Sink>(
     }
 }
 
-// The command that the words name.
-fn command<S: Source, V: Vault>(alloc: Global, words: &[Text], source: &mut S, vault: V) -> Ended<V>
-    ensures does { Does (request_of words.now)
-        (stream_change (S.left source.old) (S.left source.new) (S.faults source.old) (S.faults source.new))
-        (store_change (V.files vault) (V.files result.vault) (V.faults vault) (V.faults result.vault))
+// Does what is asked for.
+fn command<S: Source, V: Vault>(
+    alloc: Global,
+    asked: Asked<'_>,
+    source: &mut S,
+    vault: V,
+) -> Ended<V>
+    ensures does { Does (request_in asked.entry)
+        (stream_change (S.left source.old) (S.left source.new) (S.faults source.old)
+        (S.faults source.new))
+        (store_change (V.files vault) (V.files result.vault) (V.faults vault)
+        (V.faults result.vault))
         result.report
         result.fault }
     ensures store { OwesStore
         (store_change (V.files vault) (V.files result.vault) (V.faults vault)
         (V.faults result.vault)) result.fault }
 {
-    match words_ask(words) {
-        Asked::Replay => replay(alloc, source, vault),
+    match asked {
+        Asked::Replay { brief: _ } => replay(alloc, source, vault),
         Asked::Restore { container, version } => restore_words(alloc, vault, container, version),
         Asked::Describe { container } => describe_words(alloc, vault, container),
-        Asked::Unknown => refused(Fault::NotBuilt { line: 0 }, vault),
-    }
-}
-
-// What words ask for.
-enum Asked<'a> {
-    Replay,
-    Restore { container: &'a Text, version: u64 },
-    Describe { container: &'a Text },
-    Unknown,
-}
-
-fn words_ask(words: &[Text]) -> Asked<'_>
-    ensures { request_of words.now ≡ request_in result }
-{
-    match words {
-        [word] => replay_of(word),
-        [word, container] => describe_of(word, container),
-        [word, container, version] => restore_of(word, container, version),
-        _ => Asked::Unknown,
-    }
-}
-
-fn replay_of<'a>(word: &Text) -> Asked<'a>
-    ensures { request_of (word.now ∷ []) ≡ request_in result }
-{
-    if fb_bytes::is_same(word.as_bytes(), b"replay") {
-        Asked::Replay
-    } else {
-        Asked::Unknown
-    }
-}
-
-fn describe_of<'a>(word: &Text, container: &'a Text) -> Asked<'a>
-    ensures { request_of (word.now ∷ container.now ∷ []) ≡ request_in result }
-{
-    if fb_bytes::is_same(word.as_bytes(), b"describe") && is_container_name(container.as_bytes()) {
-        Asked::Describe { container }
-    } else {
-        Asked::Unknown
-    }
-}
-
-fn restore_of<'a>(word: &Text, container: &'a Text, version: &Text) -> Asked<'a>
-    ensures { request_of (word.now ∷ container.now ∷ version.now ∷ []) ≡ request_in result }
-{
-    if !fb_bytes::is_same(word.as_bytes(), b"restore") || !is_container_name(container.as_bytes()) {
-        return Asked::Unknown;
-    }
-    match read_property(version.as_bytes()) {
-        Some(version) => Asked::Restore { container, version },
-        None => Asked::Unknown,
+        Asked::List => list_words(alloc, vault),
+        Asked::Later => refused(Fault::NotBuilt { line: 0 }, vault),
+        Asked::Misused => refused(Fault::Usage, vault),
     }
 }
 
 // Writes what a command tells, and answers the status.
-fn show<K: Sink>(alloc: Global, sink: &mut K, report: &Option<Report>, fault: &Option<Fault>) -> u8
+fn show<K: Sink>(
+    alloc: Global,
+    sink: &mut K,
+    brief: bool,
+    report: &Option<Report>,
+    fault: &Option<Fault>,
+) -> u8
     ensures { Shows
+        brief
         (stream_change (K.held sink.old) (K.held sink.new) (K.faults sink.old) (K.faults sink.new))
         report.now
         fault.now
         result }
 {
-    match shown(alloc, report, fault) {
+    match shown(alloc, brief, report, fault) {
         Ok(text) => match write_all(sink, text.as_slice()) {
             Ok(()) => status_of(fault),
             Err(_) => status_of(&Some(Fault::SinkFault)),
@@ -148,19 +122,24 @@ fn show<K: Sink>(alloc: Global, sink: &mut K, report: &Option<Report>, fault: &O
 }
 
 // The report, and then the line of a refusal.
-fn shown(alloc: Global, report: &Option<Report>, fault: &Option<Fault>) -> Result<Blob, AllocError>
-    ensures { IfOk result (λ text. text ≡ shown report.now fault.now) }
+fn shown(
+    alloc: Global,
+    brief: bool,
+    report: &Option<Report>,
+    fault: &Option<Fault>,
+) -> Result<Blob, AllocError>
+    ensures { IfOk result (λ text. text ≡ shown brief report.now fault.now) }
 {
-    let mut text = report_text(alloc, report)?;
+    let mut text = report_text(alloc, brief, report)?;
     push_refusal(alloc, &mut text, fault)?;
     Ok(text)
 }
 
-fn report_text(alloc: Global, report: &Option<Report>) -> Result<Blob, AllocError>
-    ensures { IfOk result (λ text. text ≡ report_part report.now) }
+fn report_text(alloc: Global, brief: bool, report: &Option<Report>) -> Result<Blob, AllocError>
+    ensures { IfOk result (λ text. text ≡ report_part brief report.now) }
 {
     match report {
-        Some(report) => report_bytes(alloc, report, false),
+        Some(report) => report_bytes(alloc, report, brief),
         None => Ok(Blob::new(alloc)),
     }
 }
