@@ -6,6 +6,7 @@ use Rattle.mutations.specs.declared.Entry.{Entry}
 use Rattle.client_core.specs.declared.Outcome.{Outcome}
 use Rattle.report_text.specs.declared.report.Report.{Report}
 use Rattle.report_text.specs.declared.report.Report.TheVariants.{Run, Restored, Described}
+use Rattle.report_text.specs.declared.report.Report.TheVariants.{Listed}
 use Rattle.report_text.specs.declared.report.RunReport.{RunReport}
 use Rattle.report_text.specs.Lines.{line}
 use Rattle.report_text.specs.Events.{event_line}
@@ -13,7 +14,7 @@ use Rattle.report_text.specs.Outcomes.{client_lines}
 use Rattle.report_text.specs.Entries.{entry_lines}
 use Rattle.report_text.specs.Jobs.{job_lines}
 use Rattle.report_text.specs.Restores.{restored_text}
-use Rattle.report_text.specs.Descriptions.{described_text}
+use Rattle.report_text.specs.Descriptions.{container_line, described_text}
 
 -- what a brief report leaves out: the clients' tries and the entries of both databases
 abbrev pub details : List (List Outcome) → List Entry → List Entry → Bytes
@@ -35,3 +36,4 @@ abbrev pub report_text : Bool → Report → Bytes
 report_text brief (Run run) = run_text brief run
 report_text brief (Restored told) = restored_text told
 report_text brief (Described told) = described_text told
+report_text brief (Listed names) = flat_map container_line names

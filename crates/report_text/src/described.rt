@@ -20,7 +20,8 @@ pub fn put_described(out: &mut Blob, told: &Described) -> Result<(), AllocError>
     put_numbers(out, &told.description)
 }
 
-fn put_container(out: &mut Blob, name: &Text) -> Result<(), AllocError>
+/// The line of a container.
+pub fn put_container(out: &mut Blob, name: &Text) -> Result<(), AllocError>
     ensures { OnOk result (out.new ≡ out.old ++ spec.container_line name.now) }
 {
     put(out, b"container ")?;

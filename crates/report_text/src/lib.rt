@@ -7,6 +7,7 @@ mod entries;
 mod events;
 mod faults;
 mod jobs;
+mod listed;
 mod outcomes;
 mod printing;
 mod report;

@@ -5,6 +5,7 @@ use crate::described::put_described;
 use crate::entries::put_entries;
 use crate::events::put_events;
 use crate::jobs::put_jobs;
+use crate::listed::put_listed;
 use crate::outcomes::put_outcomes;
 use crate::restored::put_restored;
 use crate::words::put_last;
@@ -23,6 +24,7 @@ pub fn report_bytes(alloc: Global, report: &Report, brief: bool) -> Result<Blob,
         Report::Run(run) => put_run(alloc, &mut out, run, brief)?,
         Report::Restored(told) => put_restored(alloc, &mut out, told)?,
         Report::Described(told) => put_described(&mut out, told)?,
+        Report::Listed(names) => put_listed(&mut out, names.as_slice())?,
     }
     Ok(out)
 }

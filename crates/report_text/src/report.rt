@@ -1,7 +1,7 @@
 use client_core::Outcomes;
 use cluster_core::{Answer, Jobs, StepFault};
 use container_view::Description;
-use fb_bytes::{Pairs, Seq, Text};
+use fb_bytes::{Names, Pairs, Seq, Text};
 use mutations::Entry;
 use workload_text::{CommandKind, ScheduleLine};
 
@@ -49,4 +49,6 @@ pub enum Report {
     Run(RunReport),
     Restored(Restored),
     Described(Described),
+    /// The containers of a store.
+    Listed(Names),
 }
