@@ -83,7 +83,8 @@ impl Client {
     pub fn begin(&mut self, db: &Db, versions: &Versions) -> Option<u64>
         ensures { MatchOption result
             ((begun_client versions.entry.now.now self.old ≡ None) × (self.new ≡ self.old))
-            (λ read. (read ≡ versions.entry.now.now) × (begun_client versions.entry.now.now self.old ≡ Some self.new)) }
+            (λ read. (read ≡ versions.entry.now.now)
+            × (begun_client versions.entry.now.now self.old ≡ Some self.new)) }
     {
         if self.begun.is_some() || self.place >= self.script.txns.len() {
             return None;
@@ -104,10 +105,17 @@ impl Client {
         requires past { AllByRecursion (λ (entry : Entry). entry.version ≤ versions.old.now)
             db.old.history }
         ensures ok { IfOk result (λ outcome. MatchOption outcome
-            ((commit_try db.old.block versions.old.now versions.old.pace db.old.logs db.old.history self.old ≡ None)
+            ((commit_try db.old.block versions.old.now versions.old.pace db.old.logs
+            db.old.history self.old ≡ None)
             × (self.new ≡ self.old) × (db.new ≡ db.old) × (versions.new ≡ versions.old))
-            (λ outcome. commit_try db.old.block versions.old.now versions.old.pace db.old.logs db.old.history self.old
-            ≡ Some (record { outcome = outcome; client = self.new; history = db.new.history; time = versions.new.now }))) }
+            (λ outcome. commit_try db.old.block versions.old.now versions.old.pace db.old.logs
+            db.old.history self.old
+            ≡ Some (record {
+              outcome = outcome;
+              client = self.new;
+              history = db.new.history;
+              time = versions.new.now;
+            }))) }
         ensures same { IfOk result (λ _. (db.new.block ≡ db.old.block) × (db.new.logs ≡ db.old.logs)
             × (versions.new.pace ≡ versions.old.pace)) }
         ensures err { OnErr result ((self.new ≡ self.old) × (db.new ≡ db.old)

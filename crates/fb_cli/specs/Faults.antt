@@ -13,7 +13,8 @@ use Rattle.report_text.specs.Lines.{behind}
 use Rattle.fb_cli.specs.declared.fault.Fault.{Fault}
 use Rattle.fb_cli.specs.declared.fault.Fault.TheVariants.{Usage, TextRefused}
 use Rattle.fb_cli.specs.declared.fault.Fault.TheVariants.{SourceFault, SinkFault, VaultFault}
-use Rattle.fb_cli.specs.declared.fault.Fault.TheVariants.{NotRestorable, Damaged, VersionsSpent, LogTooLarge}
+use Rattle.fb_cli.specs.declared.fault.Fault.TheVariants.{NotRestorable, Damaged}
+use Rattle.fb_cli.specs.declared.fault.Fault.TheVariants.{VersionsSpent, LogTooLarge}
 use Rattle.fb_cli.specs.declared.fault.Fault.TheVariants.{NoMemory, NoContainer, Missing, NotBuilt}
 
 -- the status that a command ends with

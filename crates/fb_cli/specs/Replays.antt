@@ -13,7 +13,8 @@ use Rattle.fb_cli.specs.Runs.{IsRunReport, fault_in}
 use Rattle.fb_cli.specs.declared.fault.Fault.{Fault}
 use Rattle.fb_cli.specs.declared.fault.Fault.TheVariants.{Usage, TextRefused, SourceFault}
 use Rattle.fb_cli.specs.declared.fault.Fault.TheVariants.{VaultFault}
-use Rattle.fb_cli.specs.declared.fault.Fault.TheVariants.{VersionsSpent, LogTooLarge, NoMemory, NotBuilt}
+use Rattle.fb_cli.specs.declared.fault.Fault.TheVariants.{VersionsSpent, LogTooLarge}
+use Rattle.fb_cli.specs.declared.fault.Fault.TheVariants.{NoMemory, NotBuilt}
 
 -- The schedule was played to its end: there is no refusal but one of its last step.
 abbrev pub IsPlayed : Option Fault → Type 0

@@ -32,8 +32,10 @@ pub struct Ended<V> {
 /// Plays the workload whose text the source gives, over the files of the vault.
 pub fn replay<S: Source, V: Vault>(alloc: Global, source: &mut S, vault: V) -> Ended<V>
     ensures replays { Replays
-        (stream_change (S.left source.old) (S.left source.new) (S.faults source.old) (S.faults source.new))
-        (store_change (V.files vault) (V.files result.vault) (V.faults vault) (V.faults result.vault))
+        (stream_change (S.left source.old) (S.left source.new) (S.faults source.old)
+        (S.faults source.new))
+        (store_change (V.files vault) (V.files result.vault) (V.faults vault)
+        (V.faults result.vault))
         result.report
         result.fault }
     ensures status { result.status ≡ status_of result.fault }

@@ -18,7 +18,8 @@ use Rattle.cluster_core.specs.declared.Answer.TheVariants.{Version, NoTask, Paus
 use Rattle.cluster_core.specs.declared.Answer.TheVariants.{Taken, Loaded, Closed, Interrupted, Dead}
 use Rattle.cluster_core.specs.declared.Answer.TheVariants.{Going, Refused, State, Lag}
 use Rattle.cluster_core.specs.declared.StepFault.{StepFault}
-use Rattle.cluster_core.specs.declared.StepFault.TheVariants.{VaultFault, VersionsSpent, LogTooLarge}
+use Rattle.cluster_core.specs.declared.StepFault.TheVariants.{VaultFault, VersionsSpent}
+use Rattle.cluster_core.specs.declared.StepFault.TheVariants.{LogTooLarge}
 use Rattle.cluster_core.specs.declared.StepFault.TheVariants.{NoMemory}
 use Rattle.workload_text.specs.declared.CommandKind.{CommandKind}
 use Rattle.workload_text.specs.Kinds.{command_word}

@@ -75,7 +75,8 @@ fn put_answer(alloc: Global, out: &mut Blob, answer: &Answer) -> Result<(), Allo
 }
 
 fn put_task(out: &mut Blob, uid: u64, kind: Kind, until: u64) -> Result<(), AllocError>
-    ensures { OnOk result (out.new ≡ out.old ++ behind (answer_words (answers.Task uid kind until))) }
+    ensures { OnOk result
+        (out.new ≡ out.old ++ behind (answer_words (answers.Task uid kind until))) }
 {
     put_field(out, b" task ", uid)?;
     put(out, b" ")?;

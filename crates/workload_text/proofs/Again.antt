@@ -1,7 +1,7 @@
 -- What is read is the text of what it says, by the second reading.
-use Rattle.std.proofs.Common.{◌≡◌, ◌∙◌, ℕ, ◌+◌, ◌<◌, ◌≤◌, Bool, true, false, not, ◌&&◌, ◌||◌, List, [], ◌∷◌, ◌++◌, length, map, refl, sym, ap, subst, arith, nat_le, nat_lt, nat_eq, if◌then◌else◌, Ok, Err, length-append, append_assoc, append-nil, true≢false, Option, Some, None, IfOk, Result}
+use Rattle.std.proofs.Common.{◌≡◌, ◌∙◌, ℕ, ◌+◌, ◌≤◌, Bool, true, false, not, ◌&&◌, List, [], ◌∷◌, ◌++◌, length, refl, sym, ap, subst, arith, nat_lt, if◌then◌else◌, Ok, Err, length-append, append_assoc, append-nil, true≢false, Option, Some, None, IfOk, Result}
 use Rattle.workload_text.specs.declared.text_fault.TextFault.{TextFault}
-use Rattle.std.specs.List.{list_all, list_any, flat_map}
+use Rattle.std.specs.List.{list_all, flat_map}
 use Rattle.std.proofs.lemmas.Bool.{and_parts, and_from}
 use Rattle.std.proofs.lemmas.Grind.{flat_map-append}
 use Rattle.std.proofs.lemmas.List.{map-append}
@@ -20,12 +20,12 @@ use Rattle.workload_text.specs.declared.part.Part.TheVariants as parts
 use Rattle.workload_text.specs.declared.schedule.EventKind.{EventKind}
 use Rattle.workload_text.specs.declared.schedule.ScheduleLine.{ScheduleLine}
 use Rattle.workload_text.specs.declared.setting.Setting.{Setting}
-use Rattle.workload_text.specs.Faults.{Read, refuse, where_so}
+use Rattle.workload_text.specs.Faults.{Read}
 use Rattle.workload_text.specs.Keywords.{keyword_of}
 use Rattle.workload_text.specs.Lines.{said}
 use Rattle.workload_text.specs.Settings.{comes_in, has_agent, limit_for}
-use Rattle.workload_text.specs.Kinds.{event_kind_of, event_with, numbers_of}
-use Rattle.workload_text.specs.Sofar.{Sofar, limit_in, clients_in, closed, with_txn, with_line, in_part, part_behind, is_there, in_schedule, is_scheduled, is_next, is_first_no_other, stands, with_keyword, with_words, with_bytes, with_lines, numbered, at_start, is_comment}
+use Rattle.workload_text.specs.Kinds.{event_with}
+use Rattle.workload_text.specs.Sofar.{Sofar, limit_in, clients_in, closed, with_txn, with_line, part_behind, is_there, in_schedule, is_scheduled, is_next, is_first_no_other, stands, with_keyword, with_words, with_bytes, with_lines, numbered, at_start, is_comment}
 use Rattle.workload_text.specs.Grammar.{built_of, most_bytes}
 use Rattle.workload_text.specs.Texts.{lines_of, words_of, is_text_byte}
 use Rattle.workload_text.specs.declared.line_fault.LineFault.TheVariants.{Refused}

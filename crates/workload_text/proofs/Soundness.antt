@@ -1,16 +1,13 @@
 -- What a line says is within its limits, and stands where it may.
-use Rattle.std.proofs.Common.{◌≡◌, ◌∙◌, ℕ, ◌+◌, ◌<◌, ◌≤◌, Bool, true, false, not, ◌&&◌, ◌||◌, List, [], ◌∷◌, ◌++◌, length, Option, Some, None, Ok, Err, refl, sym, ap, subst, arith, nat_le, codes, if◌then◌else◌, IfOk, nat_cmp, Equal}
+use Rattle.std.proofs.Common.{◌≡◌, ℕ, ◌<◌, Bool, true, false, not, ◌&&◌, ◌||◌, List, [], ◌∷◌, ◌++◌, length, Option, Some, None, Ok, Err, refl, sym, ap, subst, arith, nat_le, codes, if◌then◌else◌, IfOk, nat_cmp, Equal}
 use Rattle.std.specs.List.{list_all}
 use Rattle.std.proofs.lemmas.Cmp.{nat_cmp_total, tied_itself}
 use Rattle.std.proofs.lemmas.Bool.{and_parts, and_from, leb-true}
-use Rattle.std.proofs.lemmas.Grind.{common_steps}
 use Rattle.fb_bytes.specs.declared.KeyRange.{KeyRange}
 use Rattle.fb_bytes.specs.Bytes.{Bytes, is_same, is_below}
-use Rattle.fb_bytes.specs.Joining.{joined}
 use Rattle.fb_bytes.specs.Keys.{is_backwards, is_past_user}
 use Rattle.fb_bytes.specs.Limits.{most_number}
 use Rattle.mutations.specs.declared.TxOp.{TxOp}
-use Rattle.mutations.specs.declared.TxOp.TheVariants.{Get, SnapshotGet, Scan, Write}
 use Rattle.workload_text.specs.declared.client_script.Side.{Side}
 use Rattle.workload_text.specs.declared.command.Command.{Command}
 use Rattle.workload_text.specs.declared.command.Command.TheVariants as commands
@@ -28,13 +25,13 @@ use Rattle.workload_text.specs.declared.part.Part.{Part}
 use Rattle.workload_text.specs.declared.schedule.EventKind.{EventKind}
 use Rattle.workload_text.specs.declared.schedule.EventKind.TheVariants as events
 use Rattle.workload_text.specs.declared.setting.Setting.{Setting}
-use Rattle.workload_text.specs.declared.setting.Setting.TheVariants.{Number, Death, Stall}
+use Rattle.workload_text.specs.declared.setting.Setting.TheVariants.{Number}
 use Rattle.workload_text.specs.declared.setting.SettingKind.{SettingKind}
 use Rattle.workload_text.specs.declared.text_fault.TextKind.{TextKind}
 use Rattle.workload_text.specs.declared.text_fault.TextKind.TheVariants as why
 use Rattle.workload_text.specs.Allowed.{is_op, writes}
 use Rattle.workload_text.specs.Commands.{is_container_name, is_short, is_version, AreJobRanges, IsWithin, IsPiece}
-use Rattle.workload_text.specs.Faults.{Read, refuse, where_so}
+use Rattle.workload_text.specs.Faults.{Read, where_so}
 use Rattle.workload_text.specs.Kinds.{event_kind_of, event_with, numbers_of}
 use Rattle.workload_text.specs.Lines as spec
 use Rattle.workload_text.specs.Lines.{said}
@@ -44,7 +41,7 @@ use Rattle.workload_text.specs.Sofar.{in_settings, in_client, in_txn, in_reads, 
 use Rattle.workload_text.specs.Words as word
 use Rattle.workload_text.specs.Words.{◌>>=◌}
 use Rattle.workload_text.proofs.Allowing.{sound_setting}
-use Rattle.workload_text.proofs.Jobs.{by_cases, is_forward, is_user, job_of}
+use Rattle.workload_text.proofs.Jobs.{is_forward, is_user, job_of}
 
 -- ---- steps
 
