@@ -119,14 +119,15 @@ are_faithful law p w files' report h src dst jobs end stored files f place told 
 
 -- ---- the report
 
-told_by : (workload begun ended : Workload) (files files' : Option (List File)) (f f' : ℕ) (final : State) (report : RunReport) (schedule : List ScheduleLine) → FaithfulLaw → begun ≡ workload → Tells workload (opening workload files) report.lines final → schedule_of report.lines ≡ schedule → RoseInEach report.lines f f' → schedule ≡ workload.schedule → ended ≡ begun → report.src ≡ final.src → report.dst ≡ final.dst → report.outcomes ≡ map (λ (client : ClientState). client.outcomes) final.clients → report.jobs ≡ map job_told final.jobs → report.end ≡ final.time → files' ≡ final.files → Sound ended final → IsRun workload (store_change files files' f f') report
-told_by workload begun ended files files' f f' final report schedule law b r l k s e src dst outcomes jobs end stored sound =
+told_by : (workload begun ended : Workload) (files files' : Option (List File)) (f f' : ℕ) (final : State) (report : RunReport) (schedule : List ScheduleLine) → FaithfulLaw → begun ≡ workload → Tells workload (opening workload files) report.lines final → schedule_of report.lines ≡ schedule → RoseInEach report.lines f f' → schedule ≡ workload.schedule → report.commands ≡ [] → ended ≡ begun → report.src ≡ final.src → report.dst ≡ final.dst → report.outcomes ≡ map (λ (client : ClientState). client.outcomes) final.clients → report.jobs ≡ map job_told final.jobs → report.end ≡ final.time → files' ≡ final.files → Sound ended final → IsRun workload (store_change files files' f f') report
+told_by workload begun ended files files' f f' final report schedule law b r l k s n e src dst outcomes jobs end stored sound =
     let h : Sound workload final = subst (λ (x : Workload). Sound x final) (e ∙ b) sound in
     record {
       told = record {
         final = final;
         run = r;
         schedule = l ∙ s;
+        commands = n;
         src = src;
         dst = dst;
         outcomes = outcomes;
@@ -141,10 +142,10 @@ told_by workload begun ended files files' f f' final report schedule law b r l k
     }
 
 -- a run over the whole schedule, told by its report
-pub tells : (workload begun ended : Workload) (files files' : Option (List File)) (f f' a c : ℕ) (old final : State) (report : RunReport) (schedule : List ScheduleLine) → FaithfulLaw → begun ≡ workload → old ≡ opening workload files → a ≡ f → f' ≡ c → Tells begun old report.lines final → schedule_of report.lines ≡ schedule → RoseInEach report.lines a c → schedule ≡ workload.schedule → ended ≡ begun → report.src ≡ final.src → report.dst ≡ final.dst → report.outcomes ≡ map (λ (client : ClientState). client.outcomes) final.clients → report.jobs ≡ map job_told final.jobs → report.end ≡ final.time → files' ≡ final.files → Sound ended final → IsRun workload (store_change files files' f f') report
-tells workload begun ended files files' f f' a c old final report schedule law b o before after r l k s e src dst outcomes jobs end stored sound =
+pub tells : (workload begun ended : Workload) (files files' : Option (List File)) (f f' a c : ℕ) (old final : State) (report : RunReport) (schedule : List ScheduleLine) → FaithfulLaw → begun ≡ workload → old ≡ opening workload files → a ≡ f → f' ≡ c → Tells begun old report.lines final → schedule_of report.lines ≡ schedule → RoseInEach report.lines a c → schedule ≡ workload.schedule → report.commands ≡ [] → ended ≡ begun → report.src ≡ final.src → report.dst ≡ final.dst → report.outcomes ≡ map (λ (client : ClientState). client.outcomes) final.clients → report.jobs ≡ map job_told final.jobs → report.end ≡ final.time → files' ≡ final.files → Sound ended final → IsRun workload (store_change files files' f f') report
+tells workload begun ended files files' f f' a c old final report schedule law b o before after r l k s n e src dst outcomes jobs end stored sound =
     told_by workload begun ended files files' f f' final report schedule law b
     (subst (λ (x : Workload). Tells x (opening workload files) report.lines final) b (subst (λ (w : State). Tells begun w report.lines final) o r))
     l
     (subst (λ (n : ℕ). RoseInEach report.lines n f') before (subst (λ (n : ℕ). RoseInEach report.lines a n) (sym after) k))
-    s e src dst outcomes jobs end stored sound
+    s n e src dst outcomes jobs end stored sound

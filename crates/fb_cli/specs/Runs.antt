@@ -87,6 +87,8 @@ pub record TellsRun (workload : Workload) (store : Store) (report : RunReport) :
   pub final : State
   pub run : Tells workload (opening workload store.before) report.lines final
   pub schedule : schedule_of report.lines ≡ workload.schedule
+  -- each command's answers stand in the lines
+  pub commands : report.commands ≡ []
   pub src : report.src ≡ final.src
   pub dst : report.dst ≡ final.dst
   pub outcomes : report.outcomes ≡ map (λ (client : ClientState). client.outcomes) final.clients

@@ -126,6 +126,7 @@ fn play<V: Vault>(alloc: Global, workload: &Workload, vault: V) -> Ended<V>
                 status: crate::fault::status_of(&fault),
                 report: Some(Report::Run(RunReport {
                     lines,
+                    commands: Seq::from_vec(Vec::new(alloc)),
                     outcomes: parts.outcomes,
                     src: parts.src,
                     dst: parts.dst,

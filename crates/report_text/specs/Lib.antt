@@ -4,6 +4,7 @@ pub mod Jobs
 pub mod Descriptions
 pub mod Faults
 pub mod Events
+pub mod Commands
 pub mod Entries
 pub mod Restores
 pub mod Reports

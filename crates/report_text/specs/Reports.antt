@@ -10,6 +10,7 @@ use Rattle.report_text.specs.declared.report.Report.TheVariants.{Listed}
 use Rattle.report_text.specs.declared.report.RunReport.{RunReport}
 use Rattle.report_text.specs.Lines.{line}
 use Rattle.report_text.specs.Events.{event_line}
+use Rattle.report_text.specs.Commands.{operator_lines}
 use Rattle.report_text.specs.Outcomes.{client_lines}
 use Rattle.report_text.specs.Entries.{entry_lines}
 use Rattle.report_text.specs.Jobs.{job_lines}
@@ -26,10 +27,11 @@ details outcomes src dst =
 abbrev pub end_line : ℕ → Bytes
 end_line version = line (codes "end" ∷ decimal version ∷ [])
 
--- The events come first, the jobs and the newest version last.
+-- The events come first, or the operator's commands in a run; the jobs and the newest version last.
 abbrev pub run_text : Bool → RunReport → Bytes
 run_text brief run =
-    flat_map event_line run.lines ++ (if brief then [] else details run.outcomes run.src run.dst)
+    flat_map event_line run.lines ++ operator_lines 1 run.commands
+    ++ (if brief then [] else details run.outcomes run.src run.dst)
     ++ job_lines run.jobs ++ end_line run.end
 
 abbrev pub report_text : Bool → Report → Bytes

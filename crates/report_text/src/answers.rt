@@ -48,7 +48,8 @@ pub fn short_reply(answer: &Result<Answer, StepFault>) -> Option<Tail>
     }
 }
 
-fn put_answer(alloc: Global, out: &mut Blob, answer: &Answer) -> Result<(), AllocError>
+/// What a step was answered.
+pub fn put_answer(alloc: Global, out: &mut Blob, answer: &Answer) -> Result<(), AllocError>
     ensures { OnOk result (out.new ≡ out.old ++ behind (answer_words answer.now)) }
 {
     match answer {

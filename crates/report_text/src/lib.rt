@@ -2,6 +2,7 @@
 #![tactic(auto)]
 
 mod answers;
+mod commands;
 mod described;
 mod entries;
 mod events;
@@ -20,4 +21,4 @@ mod words;
 pub use described::put_number_or_none;
 pub use faults::put_file_fault;
 pub use printing::report_bytes;
-pub use report::{Described, EventLine, Report, Restored, RunReport};
+pub use report::{CommandLine, Described, EventLine, Report, Restored, RunReport};

@@ -1,6 +1,7 @@
 ghost use Rattle.std.specs.Prelude.{◌≡◌, ◌++◌, IfOk, OnOk};
 ghost use Rattle.report_text.specs.Reports.{details, end_line, run_text, report_text};
 
+use crate::commands::put_operator;
 use crate::described::put_described;
 use crate::entries::put_entries;
 use crate::events::put_events;
@@ -33,6 +34,7 @@ fn put_run(alloc: Global, out: &mut Blob, run: &RunReport, brief: bool) -> Resul
     ensures { OnOk result (out.new ≡ out.old ++ run_text brief run.now) }
 {
     put_events(alloc, out, run.lines.as_slice())?;
+    put_operator(alloc, out, run.commands.as_slice())?;
     if !brief {
         put_details(alloc, out, &run.outcomes, &run.src, &run.dst)?;
     }

@@ -14,11 +14,20 @@ pub struct EventLine {
     pub answer: Result<Answer, StepFault>,
 }
 
+/// A command of the operator, and the last answer that its steps got.
+#[derive(Debug, Drop)]
+pub struct CommandLine {
+    pub command: CommandKind,
+    pub answer: Answer,
+}
+
 /// What a run did.
 #[derive(Debug, Drop)]
 pub struct RunReport {
-    /// The schedule's events, in order.
+    /// The schedule's events, in order. A run without a schedule has none.
     pub lines: Seq<EventLine>,
+    /// Of a run without a schedule: the operator's commands that were reached, in order.
+    pub commands: Seq<CommandLine>,
     /// In the order of the clients' numbers.
     pub outcomes: Outcomes,
     pub src: Seq<Entry>,

@@ -1,4 +1,5 @@
 use super::*;
+use crate::commands::put_told;
 use crate::entries::{put_mutations, put_who};
 use crate::events::put_events;
 use crate::outcomes::put_end;
@@ -10,6 +11,7 @@ use fb_bytes::Blob;
 use mutations::{Mutation, Who};
 use std::alloc::{AllocError, Global};
 use std::test::Fail;
+use task_kinds::Kind;
 use workload_text::{CommandKind, ScheduleLine};
 
 // A line of the operator.
@@ -56,6 +58,59 @@ fn operator_lines(rt: HostRuntime) -> Result<(), Fail> {
     let mut out = Blob::new(rt.alloc());
     put_events(rt.alloc(), &mut out, &events)?;
     assert_eq!(rt; out.as_slice(), ANSWERS);
+    Ok(())
+}
+
+// A line without a command.
+fn answered(line: ScheduleLine, answer: Answer) -> EventLine {
+    EventLine {
+        line,
+        command: None,
+        answer: Ok(answer),
+    }
+}
+
+// Lines of time and of an agent.
+fn turns() -> [EventLine; 7] {
+    let task = Answer::Task {
+        uid: 3,
+        kind: Kind::BackupRange,
+        until: 99,
+    };
+    [
+        answered(ScheduleLine::Tick { n: 5 }, Answer::Version { version: 15 }),
+        answered(ScheduleLine::Claim { agent: 1, pick: 7 }, task),
+        answered(
+            ScheduleLine::Extend { agent: 1 },
+            Answer::Until { until: 120 },
+        ),
+        answered(ScheduleLine::Take { agent: 1 }, Answer::Taken { ticket: 4 }),
+        answered(ScheduleLine::Place { agent: 1 }, Answer::Loaded),
+        answered(ScheduleLine::Close { agent: 1 }, Answer::Closed { uid: 3 }),
+        answered(ScheduleLine::Die { agent: 1 }, Answer::Dead),
+    ]
+}
+
+const TURNS: &[u8] = b"tick 5 -> version 15\n\
+      claim 1 7 -> task 3 backup-range until 99\n\
+      extend 1 -> until 120\n\
+      take 1 -> taken 4\n\
+      place 1 -> loaded\n\
+      close 1 -> closed 3\n\
+      die 1 -> dead\n\
+      op 12 wait -> going\n";
+
+#[test]
+fn agents_lines_and_a_command(rt: HostRuntime) -> Result<(), Fail> {
+    let events = turns();
+    let waits = CommandLine {
+        command: CommandKind::Wait,
+        answer: Answer::Going,
+    };
+    let mut out = Blob::new(rt.alloc());
+    put_events(rt.alloc(), &mut out, &events)?;
+    put_told(rt.alloc(), &mut out, 12, &waits)?;
+    assert_eq!(rt; out.as_slice(), TURNS);
     Ok(())
 }
 
