@@ -13,7 +13,8 @@ use crate::table::operations;
 use std::alloc::{AllocError, Global};
 
 macro_rules! result_of {
-    ([$op:ident $alloc:ident $old:ident $param:ident $limit:ident] $($number:literal $name:ident $word:literal $result:ident;)*) => {
+    ([$op:ident $alloc:ident $old:ident $param:ident $limit:ident]
+        $($number:literal $name:ident $word:literal $result:ident;)*) => {
         match $op {
             $(Op::$name => $result($alloc, $old, $param, $limit),)*
         }
@@ -177,7 +178,8 @@ fn lesser_or_param(
     limit: usize,
 ) -> Result<Option<Vec<u8>>, AllocError>
     ensures { IfOk result (λ left. bytes_left left ≡
-        Some (option_map_or (λ old. lesser (fitted (Some old) (length param.now)) param.now) (option_copied old.entry) param.now)) }
+        Some (option_map_or (λ old. lesser (fitted (Some old) (length param.now)) param.now)
+        (option_copied old.entry) param.now)) }
 {
     match old {
         Some(_) => lesser(alloc, old, param, limit),
@@ -192,7 +194,8 @@ fn conjunction_or_param(
     limit: usize,
 ) -> Result<Option<Vec<u8>>, AllocError>
     ensures { IfOk result (λ left. bytes_left left ≡
-        Some (option_map_or (λ old. bytes_and (fitted (Some old) (length param.now)) param.now) (option_copied old.entry) param.now)) }
+        Some (option_map_or (λ old. bytes_and (fitted (Some old) (length param.now)) param.now)
+        (option_copied old.entry) param.now)) }
 {
     match old {
         Some(_) => conjunction(alloc, old, param, limit),
@@ -207,7 +210,8 @@ fn kept_unless_same(
     _limit: usize,
 ) -> Result<Option<Vec<u8>>, AllocError>
     ensures { IfOk result (λ left. bytes_left left ≡
-        option_and_then (λ old. if is_same old param.now then None else Some old) (option_copied old.entry)) }
+        option_and_then (λ old. if is_same old param.now then None else Some old)
+        (option_copied old.entry)) }
 {
     match old {
         Some(old) if old != param => kept(alloc, old),

@@ -180,7 +180,8 @@ impl BackupJob {
             × (manifest ≡ manifest_of self.now.noted)) }
         ensures fits { IfOk result (λ manifest. manifest.bytes ≤ most_bytes) }
         ensures err { IfErr result (λ fault. (fault ≡ MapFault.NoMemory)
-            ⊎ (option_map (λ key. MapFault.Untiled key) (gap (spec.map_of self.now)) ≡ Some fault)) }
+            ⊎ (option_map (λ key. MapFault.Untiled key) (gap (spec.map_of self.now))
+            ≡ Some fault)) }
     {
         self.map.manifest()
     }

@@ -69,5 +69,6 @@ pub trait Vault: Drop + Send {
         ensures { result ≡ faults self.now };
 
     /// The files that a store tells stand in byte order.
-    ghost ordered: { (vault : Self) (files_now : List File) → files vault ≡ Some files_now → AreFiles files_now };
+    ghost ordered: { (vault : Self) (files_now : List File)
+        → files vault ≡ Some files_now → AreFiles files_now };
 }

@@ -89,7 +89,8 @@ fn put_claim(
 ) -> Result<(), AllocError>
     ensures { OnOk result
         (out.new ≡ out.old
-        ++ line (codes "claim" ∷ decimal agent ∷ decimal pick ∷ codes "->" ∷ reply_words answer.now)) }
+        ++ line (codes "claim" ∷ decimal agent ∷ decimal pick ∷ codes "->"
+        ∷ reply_words answer.now)) }
 {
     put_field(out, b"claim ", agent)?;
     put_field(out, b" ", pick)?;

@@ -43,7 +43,9 @@ pub enum Shape {
 }
 
 macro_rules! code_in {
-    ([$kind:ident] $($variant:ident $code:literal $word:literal $takes:literal $places:literal $shape:ident,)*) => {
+    ([$kind:ident]
+        $($variant:ident $code:literal $word:literal $takes:literal
+            $places:literal $shape:ident,)*) => {
         match $kind {
             $(Kind::$variant => $code,)*
         }
@@ -51,7 +53,9 @@ macro_rules! code_in {
 }
 
 macro_rules! word_in {
-    ([$kind:ident] $($variant:ident $code:literal $word:literal $takes:literal $places:literal $shape:ident,)*) => {
+    ([$kind:ident]
+        $($variant:ident $code:literal $word:literal $takes:literal
+            $places:literal $shape:ident,)*) => {
         match $kind {
             $(Kind::$variant => $word,)*
         }
@@ -59,7 +63,9 @@ macro_rules! word_in {
 }
 
 macro_rules! takes_in {
-    ([$kind:ident] $($variant:ident $code:literal $word:literal $takes:literal $places:literal $shape:ident,)*) => {
+    ([$kind:ident]
+        $($variant:ident $code:literal $word:literal $takes:literal
+            $places:literal $shape:ident,)*) => {
         match $kind {
             $(Kind::$variant => $takes,)*
         }
@@ -67,7 +73,9 @@ macro_rules! takes_in {
 }
 
 macro_rules! places_in {
-    ([$kind:ident] $($variant:ident $code:literal $word:literal $takes:literal $places:literal $shape:ident,)*) => {
+    ([$kind:ident]
+        $($variant:ident $code:literal $word:literal $takes:literal
+            $places:literal $shape:ident,)*) => {
         match $kind {
             $(Kind::$variant => $places,)*
         }
@@ -75,7 +83,9 @@ macro_rules! places_in {
 }
 
 macro_rules! shape_in {
-    ([$kind:ident] $($variant:ident $code:literal $word:literal $takes:literal $places:literal $shape:ident,)*) => {
+    ([$kind:ident]
+        $($variant:ident $code:literal $word:literal $takes:literal
+            $places:literal $shape:ident,)*) => {
         match $kind {
             $(Kind::$variant => Shape::$shape,)*
         }
@@ -83,7 +93,9 @@ macro_rules! shape_in {
 }
 
 macro_rules! kind_in {
-    ([$code_read:ident] $($variant:ident $code:literal $word:literal $takes:literal $places:literal $shape:ident,)*) => {
+    ([$code_read:ident]
+        $($variant:ident $code:literal $word:literal $takes:literal
+            $places:literal $shape:ident,)*) => {
         match $code_read {
             $($code => Some(Kind::$variant),)*
             _ => None,

@@ -109,7 +109,8 @@ impl Keys {
         requires chains { AreChains self.old }
         requires upto { AreUpto version self.old }
         ensures extends { Extends version self.old self.new }
-        ensures others { RowsStay (has_value_in (range_of begin.now end.now) version self.old) self.old self.new }
+        ensures others { RowsStay (has_value_in (range_of begin.now end.now) version self.old)
+            self.old self.new }
         ensures ok { OnOk result ((key : Bytes) → value_at self.new key version
             ≡ (if holds (range_of begin.now end.now) key then None
             else value_at self.old key version)) }

@@ -132,7 +132,8 @@ impl Store {
         ensures same { OnOk result
             (StandsWith self.old (self.old.versions ++ version ∷ []) self.new) }
         ensures rows { OnOk result (without version self.new.chains ≡ self.old.chains) }
-        ensures written { OnOk result (WritesAt (touched mutations.now) self.old.chains self.new.chains) }
+        ensures written { OnOk result
+            (WritesAt (touched mutations.now) self.old.chains self.new.chains) }
         ensures err { OnErr result (self.new ≡ self.old) }
     {
         self.versions.push(version)?;
