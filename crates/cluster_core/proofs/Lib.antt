@@ -11,6 +11,7 @@ mod Frames
 mod Steps
 pub mod Elsewhere
 mod Openings
+pub mod Slashes
 mod Relied
 mod Worlds
 mod Paces

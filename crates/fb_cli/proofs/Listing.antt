@@ -11,6 +11,7 @@ use Rattle.container_view.specs.Containers.{has_file, AreRising}
 use Rattle.container_view.specs.Files.{has_no_slash}
 use Rattle.container_view.specs.Names.{is_named}
 use Rattle.workload_text.specs.Commands.{is_name_byte, begins_well, is_container_name}
+use Rattle.cluster_core.proofs.Slashes.{no_slash}
 use Rattle.fb_cli.specs.Lists.{AreContainers}
 
 -- ---- a filtered list
@@ -38,25 +39,6 @@ named_filter p (x ∷ names) name =
 -- they stay in byte order
 pub rising_filter : (names listed : List Bytes) → listed ≡ filter is_container_name names → AreRising names → AreRising listed
 rising_filter names listed l rising = subst AreRising (sym l) (IsStrictlySortedBy-filter _ is_container_name names rising)
-
--- ---- a container's name has no slash
-
-byte_no_slash : (byte : ℕ) → is_name_byte byte ≡ true → not (byte == 47) ≡ true
-byte_no_slash byte h = go (byte == 47) refl
-  where
-    go : (b : Bool) → (byte == 47) ≡ b → not (byte == 47) ≡ true
-    go true e = let n : byte ≡ 47 = eqb-true byte 47 e in absurd (let q = sym (ap is_name_byte n) ∙ h in cc)
-    go false e = ap not e
-
-all_no_slash : (name : Bytes) → list_all is_name_byte name ≡ true → has_no_slash name ≡ true
-all_no_slash [] h = refl
-all_no_slash (byte ∷ name) h =
-    let parts = and_parts (is_name_byte byte) (list_all is_name_byte name) h in
-    and_from (not (byte == 47)) (list_all (λ b. not (b == 47)) name) (byte_no_slash byte parts.0) (all_no_slash name parts.1)
-
-no_slash : (name : Bytes) → is_container_name name ≡ true → has_no_slash name ≡ true
-unfolding is_container_name
-no_slash name h = all_no_slash name (and_parts (begins_well name && nat_le (length name) 32) (list_all is_name_byte name) h).1
 
 absorbed : (p q r : Bool) → (p ≡ true → q ≡ true) → (p && (q && r)) ≡ (p && r)
 absorbed true q r h = ap (λ (x : Bool). x && r) (h refl)
