@@ -2,6 +2,7 @@ pub mod Copying
 pub mod Cutting
 pub mod Decimals
 pub mod Pairs
+mod Places
 pub mod Jobs
 pub mod Allowing
 pub mod Fitting

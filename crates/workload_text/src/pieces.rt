@@ -4,6 +4,8 @@ ghost use Rattle.std.specs.Prelude.{◌≡◌, ◌+◌, ◌<◌, ◌≤◌, [], 
 ghost use Rattle.std.specs.List.{prefix_len, list_all};
 ghost use Rattle.workload_text.specs.Texts.{lines_of, words_of, is_line_feed, is_space, is_text_byte};
 
+use memchr::memchr;
+
 /// The first line, and what follows its line feed.
 pub fn first_line(text: &[u8]) -> (&[u8], &[u8])
     requires { 0 < length text.now }
@@ -22,7 +24,7 @@ fn line_len(text: &[u8]) -> usize
     ensures same { result ≡ prefix_len (λ byte. not (is_line_feed byte)) text.now }
     ensures within { result ≤ length text.now }
 {
-    text.iter().take_while(|byte| **byte != b'\n').count()
+    memchr(b'\n', text).unwrap_or(text.len())
 }
 
 /// The first word, and what follows it.
@@ -51,12 +53,17 @@ fn word_len(line: &[u8]) -> usize
     ensures same { result ≡ prefix_len (λ byte. not (is_space byte)) line.now }
     ensures within { result ≤ length line.now }
 {
-    line.iter().take_while(|byte| **byte != b' ').count()
+    memchr(b' ', line).unwrap_or(line.len())
 }
 
 /// Whether each byte may stand in a line.
 pub fn is_text(line: &[u8]) -> bool
     ensures { result ≡ list_all is_text_byte line.now }
 {
-    line.iter().all(|byte| matches!(*byte, b' '..=b'~'))
+    // A loop without a way out tests many bytes at a time.
+    let mut are_text = true;
+    for byte in line {
+        are_text &= matches!(*byte, b' '..=b'~');
+    }
+    are_text
 }

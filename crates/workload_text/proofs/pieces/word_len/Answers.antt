@@ -1,0 +1,7 @@
+use Rattle.std.proofs.Common.{◌∙◌}
+use Rattle.workload_text.proofs.Places.{first_place}
+use Rattle.workload_text.proofs.pieces.word_len.Goals as goal
+
+pub returns-clause-same : goal.returns-clause-same
+returns-clause-same c =
+    c.unwrap_or.ensures ∙ first_place 32 c.args.line.now c.memchr.result c.memchr.ensures
