@@ -175,17 +175,32 @@ fn clients(alloc: Global, count: u64) -> Result<String, AllocError> {
     Ok(text)
 }
 
+// A first line, a line behind it and how often: the most that may be, and one more. With them the
+// first bad line and the reason, line 999 where the text is read. A million events alone would take
+// long to try; that the first bad line is the one behind them says that they may stand.
+const LIMITS: &[(&str, &str, u64, u64, &str)] = &[
+    ("client 1 src\n", "txn\n", 100_000, 999, "read"),
+    ("client 1 src\n", "txn\n", 100_001, 100_002, "many"),
+    ("client 1 src\ntxn\n", "get a\n", 10_000, 999, "read"),
+    ("client 1 src\ntxn\n", "get a\n", 10_001, 10_003, "many"),
+    ("operator\n", "pause\n", 1_000, 999, "read"),
+    ("operator\n", "pause\n", 1_001, 1_002, "many"),
+    ("operator\ndr t src", " a b", 1_000, 999, "read"),
+    ("operator\ndr t src", " a b", 1_001, 2, "many"),
+    ("schedule\n", "op\n", 1_000_001, 1_000_002, "many"),
+];
+
 #[test]
-fn one_too_many(rt: HostRuntime) -> Result<(), Fail> {
+fn limits(rt: HostRuntime) -> Result<(), Fail> {
     let alloc = rt.alloc();
+    for (first, line, count, at, kind) in LIMITS {
+        let text = repeated(alloc, first, line, *count)?;
+        assert_eq!(rt; refused(alloc, text.as_bytes(), false), (*at, *kind));
+    }
     let text = clients(alloc, 64)?;
     assert_eq!(rt; refused(alloc, text.as_bytes(), true).0, 999);
     let text = clients(alloc, 65)?;
     assert_eq!(rt; refused(alloc, text.as_bytes(), true), (65, "many"));
-    let text = repeated(alloc, "operator\n", "pause\n", 1_001)?;
-    assert_eq!(rt; refused(alloc, text.as_bytes(), true), (1_002, "many"));
-    let text = repeated(alloc, "operator\ndr t src", " a b", 1_001)?;
-    assert_eq!(rt; refused(alloc, text.as_bytes(), true), (2, "many"));
     Ok(())
 }
 
