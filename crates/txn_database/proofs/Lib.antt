@@ -1,0 +1,12 @@
+pub mod Answers
+pub mod Keys
+pub mod PairLists
+pub mod Dumping
+pub mod Committing
+pub mod JobLogs
+pub mod Logged
+pub mod InStep
+pub mod Since
+pub mod Serial
+pub mod Firsts
+pub mod Causes
