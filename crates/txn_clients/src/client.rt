@@ -9,11 +9,11 @@ ghost use Rattle.txn_clients.specs.Ends.{end_of, version_of, goes_again};
 ghost use Rattle.txn_clients.specs.Clients.{ClientState, new_client, begun_client, commit_try};
 
 use crate::{End, Outcome};
-use txn_database::{CommitFault, Committed, Db, Tx};
 use fb_bytes::{Seq, TryCopy};
 use mutations::Who;
 use std::alloc::{AllocError, Global};
 use std::marker::Model;
+use txn_database::{CommitFault, Committed, Db, Tx};
 use versioned_kv::Versions;
 use workload_text::{ClientScript, Side};
 

@@ -1,8 +1,8 @@
 ghost use Rattle.std.specs.Prelude.{◌≡◌, IfOk};
 
-use txn_database::{CommitFault, Found};
 use fb_bytes::{Seq, TryCopy};
 use std::alloc::AllocError;
+use txn_database::{CommitFault, Found};
 
 /// How a try to commit ended.
 #[derive(Debug, Drop)]
