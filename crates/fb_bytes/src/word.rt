@@ -54,7 +54,11 @@ fn push_letter(alloc: Global, word: &mut String, byte: u8) -> Result<(), AllocEr
 fn are_plain(word: &[u8]) -> bool
     ensures { result ≡ list_all words.is_plain word.now }
 {
-    word.iter().all(|byte| is_plain(*byte))
+    let mut plain = true;
+    for byte in word {
+        plain &= is_plain(*byte);
+    }
+    plain
 }
 
 fn is_plain(byte: u8) -> bool
