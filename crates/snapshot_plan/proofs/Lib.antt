@@ -4,3 +4,5 @@ pub mod Walks
 pub mod Manifests
 pub mod Sorting
 pub mod Taking
+pub mod Cutting
+pub mod Counting

@@ -28,14 +28,14 @@ at_most_trans a b c h g = go (is_below c a) refl
     go true e = not_both (below_up c b a e h) g
     go false e = e
 
-holds_parts : (r : KeyRange) (key : Bytes) → holds r key ≡ true → (is_below key r.begin ≡ false) × (is_below key r.end ≡ true)
+pub holds_parts : (r : KeyRange) (key : Bytes) → holds r key ≡ true → (is_below key r.begin ≡ false) × (is_below key r.end ≡ true)
 holds_parts r key h = let p = and_parts (not (is_below key r.begin)) (is_below key r.end) h in (go (is_below key r.begin) p.0, p.1)
   where
     go : (b : Bool) → not b ≡ true → b ≡ false
     go true e = not_both e refl
     go false e = refl
 
-holds_from : (r : KeyRange) (key : Bytes) → is_below key r.begin ≡ false → is_below key r.end ≡ true → holds r key ≡ true
+pub holds_from : (r : KeyRange) (key : Bytes) → is_below key r.begin ≡ false → is_below key r.end ≡ true → holds r key ≡ true
 holds_from r key h g = and_from (not (is_below key r.begin)) (is_below key r.end) (not_from_false (is_below key r.begin) h) g
 
 pub not_before : (r : KeyRange) (key : Bytes) → is_below key r.begin ≡ true → holds r key ≡ false

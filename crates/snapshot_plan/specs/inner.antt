@@ -1,2 +1,3 @@
 -- Definitions that only private clauses cite.
 pub mod Walks
+pub mod Splits

@@ -6,7 +6,7 @@ ghost use Rattle.snapshot_plan.specs.Noted as spec;
 ghost use Rattle.snapshot_plan.specs.Pieces.{ArePieces};
 
 use crate::MapFault;
-use crate::pieces::{gap_in, outside, overlap};
+use crate::least_keys::{gap_in, outside, overlap};
 use fb_bytes::{Blob, KeyRange, Names, Ranges, Text, is_below, is_same};
 use manifests::Manifest;
 use std::alloc::{AllocError, Global};

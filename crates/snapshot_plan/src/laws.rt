@@ -1,4 +1,5 @@
 ghost use Rattle.snapshot_plan.specs.Laws.{LeastKeyLaw, PieceLaw, TakeBackLaw, ManifestLaw, WholeLaw};
+ghost use Rattle.snapshot_plan.specs.Plans.{PlanLaw};
 
 /// Law: the least key outside pieces, the least key that they hold, and what a piece more leaves.
 pub fn piece_law()
@@ -25,4 +26,11 @@ pub fn manifest_law()
 /// Law: the manifest of files with range names can be written.
 pub fn whole_law()
     ensures { WholeLaw }
+{}
+
+/// Law: the pieces of a job's ranges are in key order and hold exactly the keys of the ranges. No piece
+/// has more of the database's keys than the shard, and beside one for each range there are at most as many
+/// pieces as the keys divided by the shard.
+pub fn plan_law()
+    ensures { PlanLaw }
 {}

@@ -4,7 +4,7 @@ use Rattle.fb_bytes.specs.Keys.{holds}
 use Rattle.snapshot_plan.specs.Noted.{Noted}
 use Rattle.snapshot_plan.proofs.Placing.{at_place}
 use Rattle.snapshot_plan.proofs.Walks.{Walks, walk_stops, walk_reaches, walk_goes_on}
-use Rattle.snapshot_plan.proofs.pieces.reach.Goals as goal
+use Rattle.snapshot_plan.proofs.least_keys.reach.Goals as goal
 
 pub returns-then-is_below-clause-gap : goal.returns-then-is_below-clause-gap
 returns-then-is_below-clause-gap c =

@@ -3,7 +3,7 @@ use Rattle.std.proofs.lemmas.List.Sorted.{IsPartitionPoint-from_clause}
 use Rattle.fb_bytes.specs.inner.Keys.{is_passed}
 use Rattle.fb_bytes.proofs.Halving.{halved}
 use Rattle.snapshot_plan.proofs.Placing.{ranges_parted}
-use Rattle.snapshot_plan.proofs.pieces.ranges_passed.Goals as goal
+use Rattle.snapshot_plan.proofs.least_keys.ranges_passed.Goals as goal
 
 pub returns : goal.returns
 returns c =

@@ -2,7 +2,7 @@ use Rattle.std.proofs.Common.{◌≡◌, sym, ap, ◌∙◌}
 use Rattle.snapshot_plan.specs.Noted.{Noted}
 use Rattle.snapshot_plan.specs.Pieces.{if_below, later}
 use Rattle.snapshot_plan.proofs.Walks.{held_there, held_none}
-use Rattle.snapshot_plan.proofs.pieces.overlap.Goals as goal
+use Rattle.snapshot_plan.proofs.least_keys.overlap.Goals as goal
 
 pub returns-then-place-noted : goal.returns-then-place-noted
 returns-then-place-noted c =
