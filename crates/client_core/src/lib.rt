@@ -2,11 +2,11 @@
 #![tactic(auto)]
 
 mod client;
+mod laws;
 mod outcome;
 mod outcomes;
-#[cfg(test)]
-mod tests;
 
 pub use client::Client;
+pub use laws::{begin_law, entry_law, new_client_law, try_law, wait_law};
 pub use outcome::{End, Outcome};
 pub use outcomes::Outcomes;

@@ -1,11 +1,12 @@
 ghost use Rattle.std.specs.Prelude.{◌≡◌, ◌<◌, List, Some, map, length, slice_get};
-ghost use Rattle.client_core.specs.Clients.{ClientState};
+ghost use Rattle.client_core.specs.Clients.{ClientState, Told, told_of};
 
 use crate::{Client, Outcome};
 use fb_bytes::Seq;
 use std::marker::Model;
+use workload_text::ClientScript;
 
-/// The outcomes of all clients, in the order of their numbers.
+/// The scripts of all clients and what became of their tries, in the order of their numbers.
 #[derive(Debug, Drop)]
 pub struct Outcomes {
     clients: Vec<Client>,
@@ -13,18 +14,17 @@ pub struct Outcomes {
 
 impl Model for Outcomes {
     ghost use Rattle.std.specs.Prelude.{List, map};
-    ghost use Rattle.client_core.specs.declared.outcome.Outcome.{Outcome};
-    ghost use Rattle.client_core.specs.Clients.{ClientState};
+    ghost use Rattle.client_core.specs.Clients.{Told, told_of};
 
-    ghost Value = { List (List Outcome) };
+    ghost Value = { List Told };
 
-    ghost view = { λ o. map (λ (client : ClientState). client.outcomes) o.clients.items };
+    ghost view = { λ o. map told_of o.clients.items };
 }
 
 impl Outcomes {
-    /// The outcomes of these clients, with no copy.
+    /// What these clients have to tell, with no copy.
     pub fn from_clients(clients: Vec<Client>) -> Self
-        ensures { result ≡ map (λ (client : ClientState). client.outcomes) clients.items }
+        ensures { result ≡ map told_of clients.items }
     {
         Outcomes { clients }
     }
@@ -36,11 +36,13 @@ impl Outcomes {
         self.clients.len()
     }
 
-    /// The outcomes of the client at an index, from 0.
-    pub fn get(&self, index: usize) -> &Seq<Outcome>
+    /// The script of the client at an index, from 0, and its outcomes.
+    pub fn get(&self, index: usize) -> (&ClientScript, &Seq<Outcome>)
         requires { index < length self.now }
-        ensures { slice_get self.now index ≡ Some result.now }
+        ensures { slice_get self.now index
+            ≡ Some (record { script = result.0.now; outcomes = result.1.now }) }
     {
-        self.clients[index].outcomes()
+        let client = &self.clients[index];
+        (client.script(), client.outcomes())
     }
 }

@@ -14,27 +14,29 @@ use Rattle.mutations.specs.declared.Mutation.{Mutation}
 use Rattle.mutations.specs.declared.Mutation.TheVariants.{Set, ClearRange, Atomic}
 use Rattle.mutations.specs.declared.TxOp.{TxOp}
 use Rattle.mutations.specs.declared.TxOp.TheVariants.{Get, SnapshotGet, Scan, Write}
-use Rattle.mutations.specs.declared.TxFault.{TxFault}
 use Rattle.mutations.specs.declared.TxFault.TheVariants.{Outside, KeyTooLarge, ValueTooLarge}
 use Rattle.mutations.specs.Clipping.{all_clipped}
 use Rattle.mutations.specs.Spelling.{mutations_spelling}
-use Rattle.mutations.specs.Histories.{batch_of, batches_of}
+use Rattle.mutations.specs.Histories.{batch_of, batches_of, locked}
 use Rattle.mutations.specs.Transactions.{tx_fault, writes_of, ◌or_else◌, is_outside, is_long, is_key_long, is_value_long}
 use Rattle.versioned_kv.specs.Applied.{IsPast, with_entry}
 use Rattle.database.specs.declared.commit_fault.CommitFault.{CommitFault}
-use Rattle.database.specs.declared.commit_fault.CommitFault.TheVariants.{VersionsSpent}
-use Rattle.database.specs.Logs.{JobLog}
-use Rattle.database.specs.Commits.{most_version, is_large, large_of, large_in, unless_large, version_taken, unless_fault, commit_answer}
+use Rattle.database.specs.declared.commit_fault.CommitFault.TheVariants.{Locked, TooOld, NotCommitted, VersionsSpent}
+use Rattle.database.specs.Faults.{of_transaction}
+use Rattle.database.specs.Reads.{first_conflict}
+use Rattle.database.specs.Logs.{JobLog, AreLoggable}
+use Rattle.database.specs.declared.system_fault.SystemFault.{SystemFault}
+use Rattle.database.specs.Commits.{most_version, oldest_at, is_large, large_of, large_in, unless_large, version_taken, unless_fault, unless_large_entry, locked_fault, age_fault, conflict_fault, fault_before}
 use Rattle.database.specs.Dumps.{IsWithin, AreMutationsWithin}
 use Rattle.database.specs.Laws.{CommitLaw}
 
 -- ---- no test of the operations finds a fault
 
-or_none : {X : Type 0} (a b : Option X) → (a or_else b) ≡ None → (a ≡ None) × (b ≡ None)
+pub or_none : {X : Type 0} (a b : Option X) → (a or_else b) ≡ None → (a ≡ None) × (b ≡ None)
 or_none None b h = (refl, h)
 or_none (Some x) b h = cc
 
-map_none : {X Y : Type 0} (f : X → Y) (o : Option X) → option_map f o ≡ None → o ≡ None
+pub map_none : {X Y : Type 0} (f : X → Y) (o : Option X) → option_map f o ≡ None → o ≡ None
 map_none f None h = refl
 map_none f (Some x) h = cc
 
@@ -70,7 +72,7 @@ writes_within block (Scan range limit ∷ ops) k v = writes_within block ops k.1
 
 -- ---- the version
 
-no_fault : (found : Option TxFault) (answer : Result (Option ℕ) CommitFault) (version : ℕ) → unless_fault found answer ≡ Ok (Some version) → (found ≡ None) × (answer ≡ Ok (Some version))
+no_fault : (found : Option CommitFault) (answer : Result (Option ℕ) CommitFault) (version : ℕ) → unless_fault found answer ≡ Ok (Some version) → (found ≡ None) × (answer ≡ Ok (Some version))
 no_fault None answer version h = (refl, h)
 no_fault (Some fault) answer version h = cc
 
@@ -102,16 +104,37 @@ all_fit : (logs : List JobLog) (muts : List Mutation) → large_in logs muts ≡
 all_fit [] muts h = tt
 all_fit (log ∷ logs) muts h = let r = or_none (large_of log muts) (large_in logs muts) h in (fits log muts r.0, all_fit logs muts r.1)
 
+-- ---- nothing stood against it
+
+no_age : (time read : ℕ) → age_fault time read ≡ None → oldest_at time ≤ read
+no_age time read h = go (nat_lt read (oldest_at time)) refl h
+  where
+    go : (b : Bool) → nat_lt read (oldest_at time) ≡ b → cond b (Some (TooOld read (oldest_at time))) None ≡ None → oldest_at time ≤ read
+    go true e f = cc
+    go false e f = ltb-false read (oldest_at time) e
+
+no_conflict : (time pace version : ℕ) (logs : List JobLog) (muts : List Mutation) (ops : List TxOp) (read : ℕ) (history : List Entry) → version_taken time pace logs muts ≡ Ok (Some version) → conflict_fault muts ops read history ≡ None → first_conflict ops read history ≡ None
+no_conflict time pace version logs [] ops read history t h = cc
+no_conflict time pace version logs (m ∷ ms) ops read history t h = map_none NotCommitted (first_conflict ops read history) h
+
 pub commit_law : CommitLaw
-commit_law block time pace logs ops version h =
-    let passed = no_fault (tx_fault (key_limit_of block) (limit_of block) ops) (version_taken time pace logs (writes_of ops)) version h in
-    let long = none_long (key_limit_of block) (limit_of block) ops passed.0 in
-    let taken = is_next time pace version logs (writes_of ops) passed.1 in
+commit_law scene read ops version h =
+    let writes = writes_of ops in
+    let own = option_map of_transaction (tx_fault (key_limit_of scene.block) (limit_of scene.block) ops) in
+    let passed = no_fault (fault_before scene read ops) (version_taken scene.time scene.pace scene.logs writes) version h in
+    let three = or_none (own or_else locked_fault scene.history or_else age_fault scene.time read) (conflict_fault writes ops read scene.history) passed.0 in
+    let two = or_none (own or_else locked_fault scene.history) (age_fault scene.time read) three.0 in
+    let one = or_none own (locked_fault scene.history) two.0 in
+    let long = none_long (key_limit_of scene.block) (limit_of scene.block) ops (map_none of_transaction _ one.0) in
+    let taken = is_next scene.time scene.pace version scene.logs writes passed.1 in
     record {
       next = taken.0;
       most = taken.1;
-      within = writes_within block ops long.0 long.1;
-      logged = all_fit logs (writes_of ops) taken.2;
+      within = writes_within scene.block ops long.0 long.1;
+      logged = all_fit scene.logs writes taken.2;
+      unlocked = map_none Locked (locked scene.history) one.1;
+      young = no_age scene.time read two.1;
+      alone = no_conflict scene.time scene.pace version scene.logs writes ops read scene.history passed.1 three.1;
     }
 
 -- ---- the logs one after the other
@@ -135,12 +158,24 @@ later_all : (time version : ℕ) (history : List Entry) → time < version → A
 later_all time version [] l h = tt
 later_all time version (x ∷ xs) l h = let a = h.0 in (omega arith, later_all time version xs l h.1)
 
--- each entry is before the version that a commit takes
-pub entries_before : (block time pace : ℕ) (logs : List JobLog) (ops : List TxOp) (history kept : List Entry) (version : ℕ) → kept ≡ history → 1 ≤ pace → AllByRecursion (λ (entry : Entry). entry.version ≤ time) history → commit_answer block time pace logs ops ≡ Ok (Some version) → AllByRecursion (λ (entry : Entry). entry.version < version) kept
-entries_before block time pace logs ops history kept version k p h a =
-    let next : version ≡ time + pace = (commit_law block time pace logs ops version a).next in
-    subst (λ (xs : List Entry). AllByRecursion (λ (entry : Entry). entry.version < version) xs) (sym k) (later_all time version history (omega arith) h)
+-- each entry is before the next version
+pub entries_before : (time pace version : ℕ) (history : List Entry) → 1 ≤ pace → version ≡ time + pace → AllByRecursion (λ (entry : Entry). entry.version ≤ time) history → AllByRecursion (λ (entry : Entry). entry.version < version) history
+entries_before time pace version history p n h = later_all time version history (omega arith) h
 
 pub one_more : (history : List Entry) (entry : Entry) → batches_of (history ++ entry ∷ []) ≡ with_entry (batches_of history) entry.version entry.muts
 one_more [] entry = refl
 one_more (x ∷ xs) entry = ap (λ (bs : List Batch). batch_of x ∷ bs) (one_more xs entry)
+
+-- ---- what logs can take
+
+pub loggable : (muts writes : List Mutation) (logs : List JobLog) → muts ≡ writes → AreLoggable writes logs → AreLoggable muts logs
+loggable muts writes logs m h = subst (λ (ms : List Mutation). AreLoggable ms logs) (sym m) h
+
+not_large_entry : (found : Option ℕ) (answer : Result ℕ SystemFault) (version : ℕ) → unless_large_entry found answer ≡ Ok version → found ≡ None
+not_large_entry None answer version h = refl
+not_large_entry (Some bytes) (Ok next) version h = cc
+not_large_entry (Some bytes) (Err fault) version h = cc
+
+pub entry_loggable : (muts read : List Mutation) (logs seen : List JobLog) (answer : Result ℕ SystemFault) (version : ℕ) → read ≡ muts → seen ≡ logs → unless_large_entry (large_in seen read) answer ≡ Ok version → AreLoggable muts logs
+entry_loggable muts read logs seen answer version m l h =
+    loggable muts read logs (sym m) (subst (λ (xs : List JobLog). AreLoggable read xs) l (all_fit seen read (not_large_entry (large_in seen read) answer version h)))

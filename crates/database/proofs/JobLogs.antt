@@ -42,7 +42,7 @@ inserted log (y ∷ ys) = go (nat_lt y.job log.job) refl (inserted log ys)
 
 -- ---- in order
 
-all_with : (P : JobLog → Type 0) (log : JobLog) (logs : List JobLog) → P log → AllByRecursion P logs → AllByRecursion P (with_log log logs)
+pub all_with : (P : JobLog → Type 0) (log : JobLog) (logs : List JobLog) → P log → AllByRecursion P logs → AllByRecursion P (with_log log logs)
 all_with P log [] p h = (p, tt)
 all_with P log (y ∷ ys) p h = go (nat_lt y.job log.job) (all_with P log ys p h.1)
   where

@@ -73,7 +73,7 @@ past_more : (key k : Bytes) (pairs : List Pair) → is_below key k ≡ true → 
 past_more key k [] p q = tt
 past_more key k (x ∷ xs) p q = below_trans key k x.key p q
 
-value_past : (key : Bytes) (pairs : List Pair) → KeyPast key pairs → AreRising pairs → value_of pairs key ≡ None
+pub value_past : (key : Bytes) (pairs : List Pair) → KeyPast key pairs → AreRising pairs → value_of pairs key ≡ None
 value_past key [] p h = refl
 value_past key (x ∷ xs) p h = let e = same_past key x.key p in rw e (value_past key xs (past_more key x.key xs p h.0) h.1)
 

@@ -1,6 +1,7 @@
 pub mod Faults
 pub mod Logs
-pub mod Commits
 pub mod Dumps
+pub mod Reads
+pub mod Commits
 pub mod Laws
 pub mod inner

@@ -1,3 +1,4 @@
 -- Definitions that only private clauses cite.
 pub mod Kept
 pub mod Logs
+pub mod Conflicts

@@ -16,18 +16,25 @@ pub enum CommitFault {
     ValueTooLarge { index: usize },
     /// The writes have more than 10,000,000 bytes.
     TooLarge { bytes: u64 },
+    /// The job with this number holds the database's lock.
+    Locked { uid: u64 },
+    /// The read version is before the oldest version that can be read.
+    TooOld { read: u64, oldest: u64 },
+    /// Since the read version an entry touched what a read conflicts with; the version is that of
+    /// the first such entry.
+    NotCommitted { version: u64 },
     /// There is no version left; `version` is the newest.
     VersionsSpent { version: u64 },
-    /// A job that logs would log 2^32 mutation bytes or more at once; it is their number for the job
-    /// with the least number.
+    /// A job that logs would log 2^32 mutation bytes or more at once; it is their number for the
+    /// job with the least number.
     LogTooLarge { bytes: u64 },
     /// There was no memory for the entry.
     NoMemory,
 }
 
 impl CommitFault {
-    /// The fault of a commit that a transaction's own fault is. A number of bytes past `u64::MAX`, which
-    /// no memory holds, is want of memory.
+    /// The fault of a commit that a transaction's own fault is. A number of bytes past `u64::MAX`,
+    /// which no memory holds, is want of memory.
     pub fn of_transaction(fault: TxFault) -> CommitFault
         ensures { (result ≡ NoMemory) ⊎ (result ≡ of_transaction fault) }
     {

@@ -46,6 +46,23 @@ pub fn remove_log(logs: &mut Vec<JobLog>, job: u64)
     logs.retain(|log| log.job != job);
 }
 
+/// What the job logged before a version is let go.
+pub fn erase_log(logs: &mut [JobLog], job: u64, below: u64)
+    ensures { logs.new ≡ spec.with_erased job below logs.old }
+{
+    for log in logs.iter_mut() {
+        erase_to(log, job, below);
+    }
+}
+
+fn erase_to(log: &mut JobLog, job: u64, below: u64)
+    ensures { log.new ≡ spec.erased_to job below log.old }
+{
+    if log.job == job {
+        log.erased = log.erased.max(below);
+    }
+}
+
 // The place of the first log that isn't of a job with a lower number.
 fn place_of(logs: &[JobLog], job: u64) -> usize
     ensures { result ≡ inner.place_of job logs.now }

@@ -1,54 +1,113 @@
-//! What a job logs of a history.
+//! What the logs of jobs take of an entry.
 
-ghost use Rattle.std.specs.Prelude.{◌≡◌, ◌++◌, [], IfOk, OnOk};
+ghost use Rattle.std.specs.Prelude.{◌≡◌, ◌<◌, ◌≤◌, ◌^◌, ◌++◌, false, length, IfOk, OnOk, OnErr};
 ghost use Rattle.mutations.specs.Clipping.{all_clipped, clipped};
-ghost use Rattle.mutations.specs.Histories.{logged, with_batch};
+ghost use Rattle.mutations.specs.Spelling.{mutations_spelling, HasSpelling};
+ghost use Rattle.log_keys.specs.Logs.{stands, with_one, without};
+ghost use Rattle.database.specs.Logs.{AreLoggable};
+ghost use Rattle.database.specs.inner.Logs.{AreInOrder};
+ghost use Rattle.database.specs.inner.Kept.{AreBelow, put_one, put_all};
 
+use crate::JobLog;
 use fb_bytes::{Ranges, Seq};
-use mutations::{Batch, Entry, Mutation, clip};
+use log_keys::{LogKeys, undo_law, unused_law};
+use mutations::{Entry, Mutation, clip, encode_batch};
 use std::alloc::{AllocError, Global};
 
-/// What a job with these ranges logs from the version `begin` on and before `end`.
-pub fn logged(
+/// Puts what each log takes of an entry, in parts of `part` bytes. Without memory nothing changes.
+pub fn put_logs(
     alloc: Global,
-    history: &[Entry],
-    ranges: &Ranges,
-    begin: u64,
-    end: u64,
-) -> Result<Seq<Batch>, AllocError>
-    ensures { IfOk result (λ batches. batches ≡ logged history.now ranges.now begin end) }
+    keys: &mut LogKeys,
+    logs: &[JobLog],
+    entry: &Entry,
+    part: usize,
+) -> Result<(), AllocError>
+    requires part { 64 ≤ part }
+    requires below { AreBelow entry.now.version keys.old }
+    requires order { AreInOrder logs.now }
+    requires logged { AreLoggable entry.now.muts logs.now }
+    ensures ok { OnOk result
+        (keys.new ≡ put_all entry.now.version entry.now.muts logs.now keys.old) }
+    ensures back { OnOk result (without entry.now.version keys.new ≡ keys.old) }
+    ensures err { OnErr result (keys.new ≡ keys.old) }
 {
-    let mut batches = Seq::new(alloc);
-    for entry in history {
-        if begin <= entry.version && entry.version < end {
-            add_batch(alloc, &mut batches, entry, ranges)?;
+    match put_each(alloc, keys, logs, entry, part) {
+        Ok(()) => Ok(()),
+        Err(error) => {
+            keys.retract(entry.version);
+            Err(error)
         }
     }
-    Ok(batches)
 }
 
-/// Adds the batch of an entry, unless the ranges leave nothing of it.
-fn add_batch(
+// Puts what each log takes. Without memory some may be left out; a retract of the version undoes it
+// in any case.
+fn put_each(
     alloc: Global,
-    batches: &mut Seq<Batch>,
+    keys: &mut LogKeys,
+    logs: &[JobLog],
     entry: &Entry,
-    ranges: &Ranges,
+    part: usize,
 ) -> Result<(), AllocError>
-    ensures { OnOk result
-        (batches.new ≡ batches.old
-        ++ with_batch entry.now.version (all_clipped ranges.now entry.now.muts) []) }
+    requires part { 64 ≤ part }
+    requires below { AreBelow entry.now.version keys.old }
+    requires order { AreInOrder logs.now }
+    requires logged { AreLoggable entry.now.muts logs.now }
+    ensures ok { OnOk result
+        (keys.new ≡ put_all entry.now.version entry.now.muts logs.now keys.old) }
+    ensures back { without entry.now.version keys.new ≡ keys.old }
 {
-    let muts = clip_all(alloc, entry.muts.as_slice(), ranges)?;
+    undo_law();
+    unused_law();
+    for log in logs {
+        put_one(alloc, keys, log, entry, part)?;
+    }
+    Ok(())
+}
+
+// Puts what a log takes of an entry. Without memory nothing changes.
+fn put_one(
+    alloc: Global,
+    keys: &mut LogKeys,
+    log: &JobLog,
+    entry: &Entry,
+    part: usize,
+) -> Result<(), AllocError>
+    requires part { 64 ≤ part }
+    requires free { stands log.now.job entry.now.version keys.old ≡ false }
+    requires few { length (mutations_spelling (all_clipped log.now.ranges entry.now.muts)) < 2 ^ 32 }
+    ensures ok { OnOk result (keys.new ≡ put_one log.now.job entry.now.version
+        (all_clipped log.now.ranges entry.now.muts) keys.old) }
+    ensures err { OnErr result (keys.new ≡ keys.old) }
+{
+    let muts = clip_all(alloc, entry.muts.as_slice(), &log.ranges)?;
     if muts.is_empty() {
         return Ok(());
     }
-    batches.push(Batch {
-        version: entry.version,
-        muts,
-    })
+    put_muts(alloc, keys, log.job, entry.version, &muts, part)
 }
 
-/// What is left of mutations in the ranges.
+// Puts mutations under a job and a version. Without memory nothing changes.
+fn put_muts(
+    alloc: Global,
+    keys: &mut LogKeys,
+    job: u64,
+    version: u64,
+    muts: &Seq<Mutation>,
+    part: usize,
+) -> Result<(), AllocError>
+    requires part { 64 ≤ part }
+    requires free { stands job version keys.old ≡ false }
+    requires spelled { HasSpelling muts.now }
+    ensures ok { OnOk result (keys.new
+        ≡ with_one (record { job = job; version = version; muts = muts.now }) keys.old) }
+    ensures err { OnErr result (keys.new ≡ keys.old) }
+{
+    let batch = encode_batch(alloc, muts)?;
+    keys.put_batch(job, version, batch.as_slice(), part)
+}
+
+// What is left of mutations in the ranges.
 fn clip_all(alloc: Global, muts: &[Mutation], ranges: &Ranges) -> Result<Seq<Mutation>, AllocError>
     ensures { IfOk result (λ left. left ≡ all_clipped ranges.now muts.now) }
 {

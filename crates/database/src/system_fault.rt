@@ -8,8 +8,8 @@ use std::alloc::AllocError;
 pub enum SystemFault {
     /// There is no version left; `version` is the newest.
     VersionsSpent { version: u64 },
-    /// A job that logs would log 2^32 mutation bytes or more at once; it is their number for the job
-    /// with the least number.
+    /// A job that logs would log 2^32 mutation bytes or more at once; it is their number for the
+    /// job with the least number.
     LogTooLarge { bytes: u64 },
     /// There was no memory.
     NoMemory,

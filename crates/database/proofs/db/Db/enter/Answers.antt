@@ -1,7 +1,9 @@
-use Rattle.std.proofs.Common.{ap}
-use Rattle.database.proofs.Committing.{entries_before}
+use Rattle.mutations.specs.Transactions.{writes_of}
+use Rattle.database.specs.Commits.{scene_of}
+use Rattle.database.proofs.Committing.{commit_law, loggable}
 use Rattle.database.proofs.db.Db.enter.Goals as goal
 
-pub put_entry-requires-clause-past : goal.put_entry-requires-clause-past
-put_entry-requires-clause-past c =
-    entries_before c.args.self.now.block c.args.versions.now.now c.args.versions.now.pace c.args.self.now.logs c.args.tx.now.ops.now c.args.self.now.history c.self.inside.history c.args.version (ap (λ d. d.history) c.self.view_is) c.requires.pace c.requires.past c.requires.checked
+pub put-requires-clause-logged : goal.put-requires-clause-logged
+put-requires-clause-logged c =
+    loggable c.in_ok-muts.muts (writes_of c.args.tx.now.ops.now) c.args.self.now.logs c.in_ok-muts.ensures
+    (commit_law (scene_of c.args.self.now c.args.versions.now) c.args.tx.now.read c.args.tx.now.ops.now c.args.version c.requires.checked).logged
