@@ -1,2 +1,12 @@
 pub mod Manifests
 pub mod Noting
+pub mod Sums
+pub mod Buckets
+pub mod Pieces
+pub mod Rows
+pub mod Closes
+pub mod Orders
+pub mod Takes
+pub mod Calm
+pub mod Hands
+pub mod Worked

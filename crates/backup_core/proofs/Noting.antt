@@ -33,14 +33,14 @@ pieces_are : (map : Map) (one : Noted) → is_backwards one.piece ≡ false → 
 pieces_are map one proper none pieces = may_stay one map.noted pieces proper (no_overlap (outside map.ranges one.piece) (overlap (pieces_of map.noted) one.piece) none)
 
 -- no noted file has this name
-abbrev NewTo : Bytes → List Noted → Type 0
+abbrev pub NewTo : Bytes → List Noted → Type 0
 NewTo name noted = AllByRecursion (λ n. is_same name n.file.name ≡ false) noted
 
-new_to : (name : Bytes) (noted : List Noted) → IsNew name (noted_names noted) → NewTo name noted
+pub new_to : (name : Bytes) (noted : List Noted) → IsNew name (noted_names noted) → NewTo name noted
 new_to name [] h = tt
 new_to name (n ∷ ns) h = (h.0, new_to name ns h.1)
 
-is_new : (name : Bytes) (noted : List Noted) → NewTo name noted → IsNew name (noted_names noted)
+pub is_new : (name : Bytes) (noted : List Noted) → NewTo name noted → IsNew name (noted_names noted)
 is_new name [] h = tt
 is_new name (n ∷ ns) h = (h.0, is_new name ns h.1)
 

@@ -1,7 +1,7 @@
 -- A backup: what is fixed of it by its command, and what changes. A hand job's dumps, cuts and
--- seals are called one by one.
-use Rattle.std.specs.Prelude.{ℕ, ◌+◌, Bool, List, [], ◌∷◌, Option, Some, None, unwrap_or}
-use Rattle.std.specs.Prelude.{if◌then◌else◌}
+-- seals are called one by one; any other backup goes on by its tasks.
+use Rattle.std.specs.Prelude.{ℕ, ◌+◌, Bool, true, false, List, [], ◌∷◌, Option, Some, None}
+use Rattle.std.specs.Prelude.{unwrap_or, if◌then◌else◌}
 use Rattle.fb_bytes.specs.Bytes.{Bytes}
 use Rattle.fb_bytes.specs.declared.KeyRange.{KeyRange}
 use Rattle.file_names.specs.declared.Name.{Name}
@@ -9,10 +9,11 @@ use Rattle.file_names.specs.declared.Name.TheVariants.{Range, Log}
 use Rattle.file_names.specs.Spelling.{spelling}
 use Rattle.manifests.specs.Grammar.{name_for}
 use Rattle.snapshot_plan.specs.declared.Done.{Done}
+use Rattle.snapshot_plan.specs.declared.JobSettings.{JobSettings}
 use Rattle.snapshot_plan.specs.declared.Noted.{Noted}
 use Rattle.snapshot_plan.specs.Noted.{Map, with_noted, without, manifest_of}
 use Rattle.task_kinds.specs.declared.JobState.{JobState}
-use Rattle.task_kinds.specs.declared.JobState.TheVariants.{Running, Aborted}
+use Rattle.task_kinds.specs.declared.JobState.TheVariants.{Submitted, Running, Aborted}
 use Rattle.task_kinds.specs.States.{has_ended}
 use Rattle.database.specs.declared.JobLog.{JobLog}
 use Rattle.backup_core.specs.declared.mode.Mode.{Mode}
@@ -22,32 +23,66 @@ pub record Terms : Type 0 where
   pub number : ℕ
   pub mode : Mode
   pub ranges : List KeyRange
+  -- what its tasks go by
+  pub settings : JobSettings
 
 -- what contracts see of a backup
 pub record BackupJob : Type 0 where
   pub terms : Terms
   pub state : JobState
+  -- its log has begun
+  pub started : Bool
+  -- it was told to end
+  pub ending : Bool
   -- the version from which on it logs
   pub begin : ℕ
   -- the version from which on its log is kept
   pub erased : ℕ
   -- the first version that no log file of it has yet
   pub next : ℕ
-  -- the version of the first dump of the present snapshot
+  -- the version of the first dump of the present snapshot, or of its dispatch
   pub snapshot : ℕ
   -- the pieces noted for the present snapshot
   pub noted : List Noted
+  -- the manifest of the present snapshot is done
+  pub done : Bool
+  -- the greatest version of the last snapshot whose manifest is done
+  pub last : ℕ
+
+-- what a hand job goes by: it has no tasks
+abbrev pub no_settings : JobSettings
+no_settings = record { shard = 0; span = 0; rest = 0 }
 
 -- a job that logs from the version on and has dumped nothing
 abbrev pub opened : ℕ → Mode → List KeyRange → ℕ → BackupJob
 opened number mode ranges version = record {
-  terms = record { number = number; mode = mode; ranges = ranges };
+  terms = record { number = number; mode = mode; ranges = ranges; settings = no_settings };
   state = Running;
+  started = true;
+  ending = false;
   begin = version;
   erased = version;
   next = version;
   snapshot = 0;
   noted = [];
+  done = false;
+  last = 0;
+}
+
+-- a job that waits for its first task, whose close begins its log
+abbrev pub submitted : Terms → BackupJob
+submitted terms = record {
+  terms = terms;
+  state = Submitted;
+  started = false;
+  ending = false;
+  begin = 0;
+  erased = 0;
+  next = 0;
+  snapshot = 0;
+  noted = [];
+  done = false;
+  last = 0;
 }
 
 -- its ranges, and the pieces noted for the present snapshot
@@ -67,6 +102,10 @@ log_of job =
       begin = job.begin;
       erased = job.erased;
     })
+
+-- what a job logs at present: nothing before its log has begun
+abbrev pub job_log : BackupJob → Option JobLog
+job_log job = if job.started then log_of job else None
 
 -- the first where no piece is noted, else the second
 abbrev pub begun_at : List Noted → ℕ → ℕ → ℕ

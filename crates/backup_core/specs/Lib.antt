@@ -1,2 +1,9 @@
 pub mod Backups
 pub mod Manifests
+pub mod Counts
+pub mod Tasks
+pub mod Rows
+pub mod Orders
+pub mod Facts
+pub mod Kept
+pub mod Laws

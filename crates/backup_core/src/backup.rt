@@ -10,7 +10,7 @@ ghost use Rattle.backup_core.specs.Backups as spec;
 use crate::Mode;
 use fb_bytes::{KeyRange, Ranges};
 use manifests::Manifest;
-use snapshot_plan::{Done, FileMap, MapFault, Noted};
+use snapshot_plan::{Done, FileMap, JobSettings, MapFault, Noted};
 use std::alloc::{AllocError, Global};
 use std::marker::Model;
 use task_kinds::JobState;
@@ -20,12 +20,17 @@ use task_kinds::JobState;
 pub struct BackupJob {
     number: u64,
     mode: Mode,
+    settings: JobSettings,
     state: JobState,
+    started: bool,
+    ending: bool,
     map: FileMap,
     begin: u64,
     erased: u64,
     next: u64,
     snapshot: u64,
+    done: bool,
+    last: u64,
 }
 
 impl Model for BackupJob {
@@ -34,13 +39,22 @@ impl Model for BackupJob {
     ghost Value = { spec.BackupJob };
 
     ghost view = { λ job. record {
-      terms = record { number = job.number; mode = job.mode; ranges = job.map.ranges };
+      terms = record {
+        number = job.number;
+        mode = job.mode;
+        ranges = job.map.ranges;
+        settings = job.settings;
+      };
       state = job.state;
+      started = job.started;
+      ending = job.ending;
       begin = job.begin;
       erased = job.erased;
       next = job.next;
       snapshot = job.snapshot;
       noted = job.map.noted;
+      done = job.done;
+      last = job.last;
     } };
 }
 
@@ -59,12 +73,54 @@ impl BackupJob {
         Ok(BackupJob {
             number,
             mode,
+            settings: JobSettings {
+                shard: 0,
+                span: 0,
+                rest: 0,
+            },
             state: JobState::Running,
+            started: true,
+            ending: false,
             map,
             begin: version,
             erased: version,
             next: version,
             snapshot: 0,
+            done: false,
+            last: 0,
+        })
+    }
+
+    /// A job of these ranges that waits for its first task, and goes on by its tasks.
+    pub fn submit(
+        alloc: Global,
+        number: u64,
+        mode: Mode,
+        ranges: &Ranges,
+        settings: JobSettings,
+    ) -> Result<Self, AllocError>
+        ensures { IfOk result (λ job. job ≡ spec.submitted (record {
+          number = number;
+          mode = mode;
+          ranges = ranges.now;
+          settings = settings;
+        })) }
+    {
+        let map = FileMap::new(alloc, ranges)?;
+        Ok(BackupJob {
+            number,
+            mode,
+            settings,
+            state: JobState::Submitted,
+            started: false,
+            ending: false,
+            map,
+            begin: 0,
+            erased: 0,
+            next: 0,
+            snapshot: 0,
+            done: false,
+            last: 0,
         })
     }
 
@@ -85,6 +141,41 @@ impl BackupJob {
         ensures { result ≡ self.now.state }
     {
         self.state
+    }
+
+    /// What its tasks go by. A hand job has no tasks, and zeros.
+    pub fn settings(&self) -> JobSettings
+        ensures { result ≡ self.now.terms.settings }
+    {
+        self.settings
+    }
+
+    /// Its log has begun.
+    pub fn is_started(&self) -> bool
+        ensures { result ≡ self.now.started }
+    {
+        self.started
+    }
+
+    /// It was told to end.
+    pub fn is_ending(&self) -> bool
+        ensures { result ≡ self.now.ending }
+    {
+        self.ending
+    }
+
+    /// The manifest of its present snapshot is done.
+    pub fn is_done(&self) -> bool
+        ensures { result ≡ self.now.done }
+    {
+        self.done
+    }
+
+    /// The greatest version of the last snapshot whose manifest is done.
+    pub fn last(&self) -> u64
+        ensures { result ≡ self.now.last }
+    {
+        self.last
     }
 
     /// The ranges that it backs up.
