@@ -1,0 +1,5 @@
+pub mod Doomed
+pub mod Plan
+pub mod Changes
+pub mod Expiry
+pub mod Laws
