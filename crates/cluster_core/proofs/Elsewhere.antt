@@ -17,7 +17,7 @@ use Rattle.cluster_core.specs.Jobs.{Job, Terms, terms_of, started}
 use Rattle.cluster_core.proofs.Started.{started_backup}
 use Rattle.cluster_core.specs.State.{State, with_put}
 use Rattle.cluster_core.specs.Step.{Step, Turn, Run}
-use Rattle.cluster_core.specs.Footprints.{IsJobChanged, IsJobStarted, IsFilePut, Footprint}
+use Rattle.cluster_core.specs.Footprints.{IsJobChanged, IsJobStarted, IsFilePut, reach, Footprint}
 use Rattle.cluster_core.specs.Elsewhere.{told_of, IsApart, IsOutside, KeepsElsewhere, ElsewhereLaw}
 use Rattle.cluster_core.proofs.Footprints.{step_touches}
 
@@ -83,7 +83,7 @@ telling_still jobs old new (inr p) = ap is_some p.is ∙ put_telling (whole_name
 
 step_kept : (p : Workload) (old new : State) (event : Event) (answer : Result Answer StepFault) → Step p old event answer new → KeepsElsewhere old new
 step_kept p old new event answer s =
-    let touched : Footprint p.settings.pace old answer new = step_touches p old new event answer s in
+    let touched : Footprint (reach p.settings.pace event) old answer new = step_touches p old new event answer s in
     record {
       outside = λ name o. outside_before name old.jobs new.jobs touched.jobs o;
       same = λ name o. same_told name old.jobs old.files new.files touched.files (outside_before name old.jobs new.jobs touched.jobs o);

@@ -19,7 +19,7 @@ use Rattle.cluster_core.specs.commands.Seal.{seal_job}
 use Rattle.cluster_core.specs.commands.Abort.{abort_job}
 use Rattle.cluster_core.specs.Operator.{command_gives, operator_with}
 use Rattle.cluster_core.specs.Step.{event_gives, step}
-use Rattle.cluster_core.specs.Footprints.{Footprint, FootprintLaw}
+use Rattle.cluster_core.specs.Footprints.{reach, Footprint, FootprintLaw}
 use Rattle.cluster_core.proofs.Touching.{Touches, same, gone}
 use Rattle.cluster_core.proofs.commands.Dump.{dump_touches}
 use Rattle.cluster_core.proofs.commands.Cut.{cut_touches}
@@ -29,6 +29,7 @@ use Rattle.cluster_core.proofs.commands.Jobs.{job_touches, backup_touches}
 use Rattle.cluster_core.proofs.commands.Open.{open_touches}
 use Rattle.cluster_core.proofs.events.Begin.{begin_touches}
 use Rattle.cluster_core.proofs.events.Commit.{commit_touches}
+use Rattle.cluster_core.proofs.events.Tick.{tick_touches}
 
 command_touches : (s : Settings) (w : State) (luck : Luck) (command : Command) → Touches s.pace w (command_gives s w luck command)
 command_touches s w luck (commands.Open tag side container ranges) = open_touches s w tag side container ranges luck
@@ -43,18 +44,19 @@ operator_touches : (s : Settings) (w : State) (luck : Luck) (o : Option Command)
 operator_touches s w luck None = same s.pace w _
 operator_touches s w luck (Some command) = command_touches s w luck command
 
-event_touches : (p : Workload) (w : State) (luck : Luck) (event : Event) → Touches p.settings.pace w (event_gives p w luck event)
+event_touches : (p : Workload) (w : State) (luck : Luck) (event : Event) → Touches (reach p.settings.pace event) w (event_gives p w luck event)
 event_touches p w luck (events.Begin n) = begin_touches p.settings.pace w n (client_at w.clients n >>= begun_client w.time)
 event_touches p w luck (events.Commit n) = commit_touches p.settings w n (client_at w.clients n)
+event_touches p w luck (events.Tick n) = tick_touches w n
 event_touches p w luck events.Command = operator_touches p.settings w luck (slice_get p.operator w.place)
 
-luck_touches : (p : Workload) (w : State) (event : Event) (luck : Luck) → Touches p.settings.pace w (step p w event luck)
+luck_touches : (p : Workload) (w : State) (event : Event) (luck : Luck) → Touches (reach p.settings.pace event) w (step p w event luck)
 luck_touches p w event luck = go (is_starved luck)
   where
-    go : (b : Bool) → Touches p.settings.pace w (cond b (moved (Err NoMemory) w) (event_gives p w luck event))
-    go true = same p.settings.pace w _
+    go : (b : Bool) → Touches (reach p.settings.pace event) w (cond b (moved (Err NoMemory) w) (event_gives p w luck event))
+    go true = same (reach p.settings.pace event) w _
     go false = event_touches p w luck event
 
 pub step_touches : FootprintLaw
 step_touches p old new event answer s =
-    subst (λ (m : Moved). Footprint p.settings.pace old m.answer m.state) s.gives (luck_touches p old event s.luck)
+    subst (λ (m : Moved). Footprint (reach p.settings.pace event) old m.answer m.state) s.gives (luck_touches p old event s.luck)

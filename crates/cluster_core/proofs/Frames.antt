@@ -22,6 +22,7 @@ use Rattle.cluster_core.proofs.Lists.{get_set_same, get_set_other, same_or_other
 use Rattle.cluster_core.proofs.All.{each_set}
 use Rattle.cluster_core.proofs.Known.{Known}
 use Rattle.cluster_core.proofs.Grown.{each_sound, each_kept, job_grown, stored_grown, waits}
+use Rattle.cluster_core.proofs.Waiting.{job_goes_on, clients_wait}
 use Rattle.cluster_core.proofs.Puts.{IsFresh, stored_put, stored_elsewhere, fresh_is_spare}
 
 -- ---- the operator goes on
@@ -132,7 +133,7 @@ pub sound_changed : (p : Workload) (w : State) (place : ℕ) (old : Backup) (han
 sound_changed p w place old hand h at t j s = record {
   clock = h.clock;
   databases = h.databases;
-  clients = h.clients;
+  clients = clients_wait p.settings p.clients w.time w.time w.jobs (slice_set w.jobs place (types.Backup (record old { job = hand }))) w.src w.dst w.clients (let s : w.time ≤ w.time = omega arith in s) (job_goes_on w.jobs place old hand at t) h.clients;
   jobs = record {
     each = each_set (λ m x. JobSound p.settings.block w.time w.tickets w.src w.dst x) w.jobs place (types.Backup old) (types.Backup (record old { job = hand })) at j (λ m x d e. h.jobs.each m x e);
     apart = apart_set w.jobs place old (record old { job = hand }) at refl h.jobs.apart;

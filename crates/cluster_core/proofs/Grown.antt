@@ -13,7 +13,7 @@ use Rattle.cluster_core.specs.declared.job.Job.TheVariants as types
 use Rattle.cluster_core.specs.Backups.{Backup}
 use Rattle.cluster_core.specs.Sound.{IsNoted, IsDrawn, BackupSound, JobSound, JobStored, IsStored, AreLoggable, source_of}
 use Rattle.cluster_core.specs.State.{on_side}
-use Rattle.cluster_core.proofs.Entries.{All-weaker}
+use Rattle.client_core.proofs.Lists.{All-weaker}
 use Rattle.cluster_core.proofs.Known.{Known}
 
 -- ---- by the types of jobs
@@ -40,6 +40,7 @@ job_grown block now now' tickets tickets' history history' job n t logged h = re
   distinct = h.distinct;
   snapshot = let s = h.snapshot in omega arith;
   begun = h.begun;
+  erased = h.erased;
   next = let m = h.next in omega arith;
   logged = logged;
 }

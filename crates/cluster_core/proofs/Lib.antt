@@ -7,12 +7,14 @@ mod Named
 mod Numbering
 mod Grown
 mod Puts
+mod Waiting
 mod Frames
 mod Steps
 pub mod Elsewhere
 mod Openings
 pub mod Slashes
 mod Relied
+mod Oldest
 mod Worlds
 mod Paces
 pub mod LeastKeys

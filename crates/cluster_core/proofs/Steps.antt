@@ -7,7 +7,7 @@ use Rattle.workload_text.specs.declared.Command.TheVariants as commands
 use Rattle.workload_text.specs.declared.Workload.{Workload}
 use Rattle.workload_text.specs.Commands.{IsCommand}
 use Rattle.cluster_core.specs.declared.event.Event.{Event}
-use Rattle.cluster_core.specs.declared.event.Event.TheVariants.{Begin, Commit}
+use Rattle.cluster_core.specs.declared.event.Event.TheVariants.{Begin, Commit, Tick}
 use Rattle.cluster_core.specs.declared.event.Event.TheVariants as events
 use Rattle.cluster_core.specs.declared.event.StepFault.TheVariants.{NoMemory}
 use Rattle.cluster_core.specs.Jobs.{newest, on_backup}
@@ -30,6 +30,7 @@ use Rattle.cluster_core.proofs.commands.Abort.{abort_keeps}
 use Rattle.cluster_core.proofs.commands.Open.{open_keeps}
 use Rattle.cluster_core.proofs.events.Begin.{begin_of_keeps}
 use Rattle.cluster_core.proofs.events.Commit.{commit_keeps}
+use Rattle.cluster_core.proofs.events.Tick.{tick_keeps}
 use Rattle.cluster_core.proofs.commands.Jobs.{job_keeps, backup_keeps}
 
 command_keeps : (k : Known) (p : Workload) (w : State) (luck : Luck) (command : Command) → IsCommand p.settings.block command → Sound p w → Sound p (command_gives p.settings w luck command).state
@@ -54,6 +55,7 @@ operator_keeps k p w luck (Some command) e h = command_keeps k p w luck command 
 pub event_keeps : (k : Known) (p : Workload) (w : State) (luck : Luck) (event : Event) → Sound p w → Sound p (event_gives p w luck event).state
 event_keeps k p w luck (Begin n) h = begin_of_keeps p w n (client_at w.clients n) refl h
 event_keeps k p w luck (Commit n) h = commit_keeps k p w n (client_at w.clients n) refl h
+event_keeps k p w luck (Tick n) h = tick_keeps k p w n h
 event_keeps k p w luck events.Command h = operator_keeps k p w luck (slice_get p.operator w.place) refl h
 
 pub luck_keeps : (k : Known) (p : Workload) (w : State) (event : Event) (luck : Luck) → Sound p w → Sound p (step p w event luck).state

@@ -7,6 +7,7 @@ use Rattle.mutations.specs.declared.Entry.{Entry}
 use Rattle.container_view.specs.Files.{whole_name}
 use Rattle.workload_text.specs.declared.Workload.{Workload}
 use Rattle.cluster_core.specs.declared.event.Event.{Event}
+use Rattle.cluster_core.specs.declared.event.Event.TheVariants as events
 use Rattle.cluster_core.specs.declared.event.Answer.{Answer}
 use Rattle.cluster_core.specs.declared.event.StepFault.{StepFault}
 use Rattle.cluster_core.specs.declared.event.StepFault.TheVariants.{NoMemory}
@@ -46,14 +47,20 @@ pub record IsFilePut (jobs : List Job) (old new : Option (List File)) : Type 0 w
   pub bytes : Bytes
   pub is : new ≡ with_put (whole_name backup.container name) bytes old
 
+-- how far time may go on in the step of an event: a tick says it, and the others take a version at
+-- most
+abbrev pub reach : ℕ → Event → ℕ
+reach pace (events.Tick n) = n
+reach pace event = pace
+
 -- What a step may touch, whatever it is answered.
-pub record Footprint (pace : ℕ) (old : State) (answer : Result Answer StepFault) (new : State)
+pub record Footprint (most : ℕ) (old : State) (answer : Result Answer StepFault) (new : State)
     : Type 0 where
   -- without memory nothing
   pub starved : answer ≡ Err NoMemory → new ≡ old
-  -- time goes on by the pace at most
+  -- time goes on so far at most
   pub since : old.time ≤ new.time
-  pub upto : new.time ≤ old.time + pace
+  pub upto : new.time ≤ old.time + most
   pub src : (new.src ≡ old.src) ⊎ IsEntered new.time old.src new.src
   pub dst : (new.dst ≡ old.dst) ⊎ IsEntered new.time old.dst new.dst
   -- and on one side alone
@@ -66,4 +73,5 @@ pub record Footprint (pace : ℕ) (old : State) (answer : Result Answer StepFaul
 abbrev pub FootprintLaw : Type 0
 FootprintLaw =
     (workload : Workload) (old new : State) (event : Event) (answer : Result Answer StepFault)
-    → Step workload old event answer new → Footprint workload.settings.pace old answer new
+    → Step workload old event answer new
+    → Footprint (reach workload.settings.pace event) old answer new

@@ -1,5 +1,5 @@
 -- The jobs of a run, and how they are found.
-use Rattle.std.specs.Prelude.{ℕ, ◌+◌, Bool, true, false, List, [], ◌∷◌, Option, Some}
+use Rattle.std.specs.Prelude.{ℕ, ◌+◌, Bool, true, false, List, [], ◌∷◌, ◌++◌, Option, Some}
 use Rattle.std.specs.Prelude.{None, if◌then◌else◌}
 use Rattle.fb_bytes.specs.Bytes.{Bytes, is_same}
 use Rattle.fb_bytes.specs.declared.KeyRange.{KeyRange}
@@ -102,6 +102,15 @@ is_on Dst Dst = true
 -- what a job logs on a side, where it logs there: it reads that database and hasn't ended
 abbrev pub log_on : Side → Job → Option JobLog
 log_on side (types.Backup backup) = if is_on side backup.side then log_of backup.job else None
+
+-- the ranges of a job of a side, whether it has ended or not
+abbrev pub range_on : Side → Job → List (List KeyRange)
+range_on side (types.Backup backup) =
+    if is_on side backup.side then backup.job.terms.ranges ∷ [] else []
+
+abbrev pub ranges_on : Side → List Job → List (List KeyRange)
+ranges_on side [] = []
+ranges_on side (job ∷ jobs) = range_on side job ++ ranges_on side jobs
 
 -- a log in front, where there is one
 abbrev pub with_front : Option JobLog → List JobLog → List JobLog

@@ -24,6 +24,7 @@ use Rattle.snapshot_plan.specs.Noted.{pieces_of}
 use Rattle.snapshot_plan.specs.Pieces.{ArePieces}
 use Rattle.snapshot_plan.specs.Listing.{noted_names, AreDistinct}
 use Rattle.workload_text.specs.Commands.{is_container_name}
+use Rattle.workload_text.specs.declared.Settings.{Settings}
 use Rattle.workload_text.specs.declared.Workload.{Workload}
 use Rattle.workload_text.specs.declared.Side.{Side}
 use Rattle.workload_text.specs.declared.Side.TheVariants.{Src, Dst}
@@ -31,12 +32,13 @@ use Rattle.workload_text.specs.declared.ClientScript.{ClientScript}
 use Rattle.database.specs.Commits.{most_version}
 use Rattle.database.specs.Dumps.{AreWithin}
 use Rattle.client_core.specs.Clients.{ClientState}
-use Rattle.client_core.specs.Legal.{entries_by, IsLegal}
+use Rattle.client_core.specs.Legal.{Ground, entries_by}
+use Rattle.client_core.specs.Sound.{IsSoundClient}
 use Rattle.task_kinds.specs.States.{has_ended}
 use Rattle.cluster_core.specs.declared.job.Job.{Job}
 use Rattle.cluster_core.specs.declared.job.Job.TheVariants as types
 use Rattle.cluster_core.specs.Backups.{Backup}
-use Rattle.cluster_core.specs.Jobs.{terms_of}
+use Rattle.cluster_core.specs.Jobs.{terms_of, ranges_on}
 use Rattle.cluster_core.specs.State.{State, on_side, client_at}
 
 -- The entries stand in the order of their versions, and none is past the newest version.
@@ -48,12 +50,23 @@ abbrev pub other_side : Side → Side
 other_side Src = Dst
 other_side Dst = Src
 
+-- what the clients of a side are measured by: the settings, the jobs that were to log there, and the
+-- history
+abbrev pub ground_of : Settings → Side → List Job → List Entry → List Entry → Ground
+ground_of settings side jobs src dst =
+    record {
+      block = settings.block;
+      pace = settings.pace;
+      tries = settings.tries;
+      logged = ranges_on side jobs;
+      history = on_side side src dst;
+    }
+
 -- A client's outcomes and its database's history are legal for its script, and the other database
 -- has no entry by it.
-pub record IsClientSound (src dst : List Entry) (number : ℕ) (client : ClientState) : Type 0 where
-  pub numbered : client.script.number ≡ number
-  pub placed : client.place ≡ length client.outcomes
-  pub legal : IsLegal number client.script.txns client.outcomes (on_side client.script.side src dst)
+pub record IsClientSound (settings : Settings) (time : ℕ) (jobs : List Job) (src dst : List Entry)
+    (number : ℕ) (client : ClientState) : Type 0 where
+  pub sound : IsSoundClient (ground_of settings client.script.side jobs src dst) time number client
   pub apart : entries_by number (on_side (other_side client.script.side) src dst) ≡ []
 
 -- ---- jobs
@@ -90,6 +103,7 @@ pub record BackupSound (block now tickets : ℕ) (history : List Entry) (backup 
   pub snapshot : backup.job.snapshot ≤ now
   -- its log goes on from where it was cut
   pub begun : backup.job.begin ≤ backup.job.next
+  pub erased : backup.job.erased ≤ backup.job.next
   pub next : backup.job.next ≤ now + 1
   pub logged : has_ended backup.job.state ≡ false
       → AreLoggable backup.job.terms.ranges backup.job.begin history
@@ -166,11 +180,11 @@ pub record AreDatabasesSound (block time : ℕ) (src dst : List Entry) : Type 0 
   pub within : (side : Side) → AreWithin block (on_side side src dst)
 
 -- The clients go through the workload's scripts, each as far as its outcomes and the histories say.
-pub record AreClientsSound (scripts : List ClientScript) (src dst : List Entry)
-    (clients : List ClientState) : Type 0 where
+pub record AreClientsSound (settings : Settings) (scripts : List ClientScript) (time : ℕ)
+    (jobs : List Job) (src dst : List Entry) (clients : List ClientState) : Type 0 where
   pub scripts_are : map (λ (client : ClientState). client.script) clients ≡ scripts
   pub each : (number : ℕ) (client : ClientState) → client_at clients number ≡ Some client
-      → IsClientSound src dst number client
+      → IsClientSound settings time jobs src dst number client
 
 -- what the facts on jobs and on their containers read of a state
 pub record View : Type 0 where
@@ -217,7 +231,8 @@ pub record AreContainersSound (view : View) (files : List File) : Type 0 where
 pub record Sound (workload : Workload) (state : State) : Type 0 where
   pub clock : IsClockSound state.time state.tickets
   pub databases : AreDatabasesSound workload.settings.block state.time state.src state.dst
-  pub clients : AreClientsSound workload.clients state.src state.dst state.clients
+  pub clients : AreClientsSound workload.settings workload.clients state.time state.jobs state.src
+      state.dst state.clients
   pub jobs : AreJobsSound (view_of workload.settings.block state)
   -- where the store tells its files
   pub containers : (files : List File) → state.files ≡ Some files

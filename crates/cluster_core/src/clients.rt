@@ -6,6 +6,7 @@ ghost use Rattle.mutations.specs.declared.Entry.{Entry};
 ghost use Rattle.workload_text.specs.declared.Settings.{Settings};
 ghost use Rattle.workload_text.specs.declared.Side.TheVariants as spec;
 ghost use Rattle.client_core.specs.Clients.{ClientState, new_client};
+ghost use Rattle.database.specs.Commits.{oldest_at};
 ghost use Rattle.cluster_core.specs.State.{put_client};
 ghost use Rattle.cluster_core.specs.Jobs.{logs_of};
 ghost use Rattle.cluster_core.specs.Moves.{moved};
@@ -19,13 +20,17 @@ use std::alloc::{AllocError, Global};
 use versioned_kv::Versions;
 use workload_text::{ClientScript, Side};
 
-// Clients at the start of their scripts.
-pub fn new_clients(alloc: Global, scripts: &[ClientScript]) -> Result<Vec<Client>, AllocError>
-    ensures { IfOk result (λ clients. clients.items ≡ map new_client scripts.now) }
+// Clients at the start of their scripts, which try each transaction so often.
+pub fn new_clients(
+    alloc: Global,
+    scripts: &[ClientScript],
+    tries: u32,
+) -> Result<Vec<Client>, AllocError>
+    ensures { IfOk result (λ clients. clients.items ≡ map (new_client tries) scripts.now) }
 {
     let mut clients = Vec::new(alloc);
     for script in scripts {
-        let client = Client::new(alloc, script)?;
+        let client = Client::new(alloc, script, tries)?;
         clients.push(client)?;
     }
     Ok(clients)
@@ -67,6 +72,8 @@ pub fn commit_client(
         src.old.history }
     requires dst { AllByRecursion (λ (entry : Entry). entry.version ≤ versions.old.now)
         dst.old.history }
+    requires src_oldest { src.old.oldest ≤ oldest_at versions.old.now }
+    requires dst_oldest { dst.old.oldest ≤ oldest_at versions.old.now }
     ensures ok { IfOk result
         (λ answer. (settings : Settings) (desk : Desk) (files : Option (List File))
         → src.old.block ≡ settings.block → dst.old.block ≡ settings.block
@@ -77,6 +84,8 @@ pub fn commit_client(
     ensures blocks { (src.new.block ≡ src.old.block) × (dst.new.block ≡ dst.old.block) }
     ensures logs { (src.new.logs ≡ src.old.logs) × (dst.new.logs ≡ dst.old.logs) }
     ensures pace { versions.new.pace ≡ versions.old.pace }
+    ensures src_oldest { src.new.oldest ≤ oldest_at versions.new.now }
+    ensures dst_oldest { dst.new.oldest ≤ oldest_at versions.new.now }
     ensures err { OnErr result
         ((clients.new ≡ clients.old) × (src.new ≡ src.old) × (dst.new ≡ dst.old)
         × (versions.new ≡ versions.old)) }
@@ -128,6 +137,7 @@ fn try_client(
     requires pace { 1 ≤ versions.old.pace }
     requires past { AllByRecursion (λ (entry : Entry). entry.version ≤ versions.old.now)
         db.old.history }
+    requires oldest { db.old.oldest ≤ oldest_at versions.old.now }
     ensures ok { IfOk result (λ outcome. MatchOption outcome
         ((tried_in clients.old number db.old versions.old ≡ None)
         × (clients.new ≡ clients.old) × (db.new ≡ db.old) × (versions.new ≡ versions.old))
@@ -142,6 +152,8 @@ fn try_client(
         × (clients.new ≡ put_client clients.old number client))) }
     ensures same { (db.new.block ≡ db.old.block) × (db.new.logs ≡ db.old.logs)
         × (versions.new.pace ≡ versions.old.pace) }
+    ensures oldest { db.new.oldest ≤ oldest_at versions.new.now }
+    ensures later { versions.old.now ≤ versions.new.now }
     ensures err { OnErr result
         ((clients.new ≡ clients.old) × (db.new ≡ db.old) × (versions.new ≡ versions.old)) }
 {

@@ -14,6 +14,8 @@ pub enum Event {
     Begin { client: u32 },
     /// The client tries to commit the transaction that it began.
     Commit { client: u32 },
+    /// So many versions go by.
+    Tick { n: u64 },
     /// The operator makes a step of its next command.
     Command,
 }

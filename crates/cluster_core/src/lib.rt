@@ -13,8 +13,6 @@ mod logging;
 mod plan;
 mod planning;
 mod refusal;
-#[cfg(test)]
-mod tests;
 mod world;
 
 pub use backup::Backup;

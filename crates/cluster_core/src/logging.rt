@@ -1,6 +1,8 @@
 //! The logs of jobs in the two databases.
 
-ghost use Rattle.std.specs.Prelude.{◌≡◌, Ok, None, IfOk, OnErr};
+ghost use Rattle.std.specs.Prelude.{◌≡◌, ◌≤◌, Ok, None, IfOk, OnErr};
+ghost use Rattle.std.specs.List.{AllByRecursion};
+ghost use Rattle.mutations.specs.declared.Entry.{Entry};
 ghost use Rattle.database.specs.Logs.{log_of};
 ghost use Rattle.database.specs.Commits.{next_version};
 ghost use Rattle.workload_text.specs.declared.Side.TheVariants as sides;
@@ -24,6 +26,11 @@ pub fn begin_log(
 ) -> Result<u64, AllocError>
     requires src { log_of src.old.logs number ≡ None }
     requires dst { log_of dst.old.logs number ≡ None }
+    requires pace { 1 ≤ versions.old.pace }
+    requires src_past { AllByRecursion (λ (entry : Entry). entry.version ≤ versions.old.now)
+        src.old.history }
+    requires dst_past { AllByRecursion (λ (entry : Entry). entry.version ≤ versions.old.now)
+        dst.old.history }
     ensures version { IfOk result
         (λ version. next_version versions.old.now versions.old.pace ≡ Ok version) }
     ensures time { IfOk result (λ version. versions.new ≡ record versions.old { now = version }) }

@@ -1,8 +1,10 @@
 ghost use Rattle.std.specs.Prelude.{◌≡◌, ◌+◌, ◌<◌, ◌≤◌, List, [], length, Some, Ok, Err, map};
-ghost use Rattle.std.specs.Prelude.{slice_get, ◌⊎◌, IfOk, IfErr, OnErr, IsErrOf};
+ghost use Rattle.std.specs.Prelude.{None, nat_lt, if◌then◌else◌, slice_get, ◌⊎◌, IfOk, IfErr, OnErr};
+ghost use Rattle.std.specs.Prelude.{IsErrOf};
 ghost use Rattle.std.specs.Option.{option_copied};
 ghost use Rattle.fb_outside.specs.Faults.{Counts};
-ghost use Rattle.client_core.specs.Clients.{ClientState, new_client};
+ghost use Rattle.database.specs.Commits.{most_version};
+ghost use Rattle.client_core.specs.Clients.{new_client, told_of};
 ghost use Rattle.cluster_core.specs.Jobs as spec;
 ghost use Rattle.cluster_core.specs.State.{State, opening};
 ghost use Rattle.cluster_core.specs.Moves.{Fine, moved, Silent};
@@ -10,8 +12,9 @@ ghost use Rattle.cluster_core.specs.commands.Shared.{gone_on};
 ghost use Rattle.cluster_core.specs.Step.{Step, step};
 ghost use Rattle.cluster_core.specs.events.Begin.{begin};
 ghost use Rattle.cluster_core.specs.events.Commit.{commit};
+ghost use Rattle.cluster_core.specs.events.Tick.{tick};
 ghost use Rattle.cluster_core.specs.inner.Plans.{IsPlan, IsSafe};
-ghost use Rattle.cluster_core.specs.Footprints.{Footprint};
+ghost use Rattle.cluster_core.specs.Footprints.{Footprint, reach};
 ghost use Rattle.cluster_core.specs.Sound.{Sound};
 ghost use Rattle.cluster_core.specs.inner.World.{CommitSteps, OperatorSteps, IsListed, IsFirstName};
 
@@ -157,13 +160,14 @@ impl<V: Vault> World<V> {
         // The store's count of faults rose where the step was refused for it.
         ensures faults { Counts self.old.faults self.new.faults
             (IsErrOf result StepFault.VaultFault) }
-        ensures footprint { Footprint self.old.workload.settings.pace self.old.state result
-            self.new.state }
+        ensures footprint { Footprint (reach self.old.workload.settings.pace event.now)
+            self.old.state result self.new.state }
         ensures sound { Sound self.new.workload self.new.state }
     {
         let answer = match event {
             Event::Begin { client } => Ok(self.begin(*client)),
             Event::Commit { client } => self.commit(*client),
+            Event::Tick { n } => self.tick(*n),
             Event::Command => self.operate(),
         };
         let _sound = &self.workload;
@@ -174,8 +178,7 @@ impl<V: Vault> World<V> {
     pub fn into_parts(self) -> Parts<V>
         ensures src { result.src ≡ self.state.src }
         ensures dst { result.dst ≡ self.state.dst }
-        ensures outcomes { result.outcomes
-            ≡ map (λ (client : ClientState). client.outcomes) self.state.clients }
+        ensures outcomes { result.outcomes ≡ map told_of self.state.clients }
         ensures jobs { result.jobs ≡ map spec.job_told self.state.jobs }
         ensures end { result.end ≡ self.state.time }
         ensures files { V.files result.vault ≡ self.state.files }
@@ -240,6 +243,25 @@ impl<V: Vault> World<V> {
             Err(fault) => return Err(fault),
         };
         Ok(answer)
+    }
+
+    /// Time goes on, where there are so many versions left.
+    fn tick(&mut self, n: u64) -> Result<Answer, StepFault>
+        ensures step { tick self.old.state n ≡ moved result self.new.state }
+        ensures workload { self.new.workload ≡ self.old.workload }
+        ensures calls { self.new.calls ≡ self.old.calls }
+        ensures faults { self.new.faults ≡ self.old.faults }
+        ensures fault { IsErrOf result StepFault.VaultFault → ⊥ }
+    {
+        match later(self.versions.now, n) {
+            Some(version) => {
+                self.versions.now = version;
+                Ok(Answer::Version { version })
+            }
+            None => Err(StepFault::VersionsSpent {
+                version: self.versions.now,
+            }),
+        }
     }
 
     /// Makes the step of the operator's next command.
@@ -450,12 +472,25 @@ fn next_place(place: usize, count: usize) -> usize
     if place < count { place + 1 } else { place }
 }
 
+// The version that is so far behind this one, where there is one.
+fn later(now: u64, n: u64) -> Option<u64>
+    ensures { result ≡ (if nat_lt most_version (now + n) then None else Some (now + n)) }
+{
+    let version = now.checked_add(n)?;
+    if version > Versions::MOST {
+        return None;
+    }
+    Some(version)
+}
+
 // A copy of the workload, and its clients at the start of their scripts.
 fn copies(alloc: Global, workload: &Workload) -> Result<(Workload, Vec<Client>), AllocError>
     ensures { IfOk result
-        (λ both. (both.0 ≡ workload.now) × (both.1.items ≡ map new_client workload.now.clients)) }
+        (λ both. (both.0 ≡ workload.now)
+        × (both.1.items ≡ map (new_client workload.now.settings.tries) workload.now.clients)) }
 {
-    let clients = new_clients(alloc, workload.clients.as_slice())?;
+    let tries = workload.settings.tries;
+    let clients = new_clients(alloc, workload.clients.as_slice(), tries)?;
     let workload = workload.copy()?;
     Ok((workload, clients))
 }

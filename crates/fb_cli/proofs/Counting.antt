@@ -1,10 +1,10 @@
 -- The store's count of faults, over event lines.
-use Rattle.std.specs.Prelude.{◌≡◌, ℕ, zero, suc, ◌+◌, ◌<◌, ◌≤◌, List, [], ◌∷◌, ◌++◌, Some, Result, Ok, Err, ◌⊎◌, refl}
+use Rattle.std.specs.Prelude.{◌≡◌, ℕ, zero, suc, ◌+◌, ◌<◌, ◌≤◌, List, [], ◌∷◌, ◌++◌, Some, Ok, Err, ◌⊎◌, refl}
 use Rattle.std.proofs.Common.{ap, ◌∙◌, arith, inl, inr}
 use Rattle.fb_outside.specs.Faults.{Rose, Counts}
-use Rattle.cluster_core.specs.declared.Answer.{Answer}
-use Rattle.cluster_core.specs.declared.StepFault.{StepFault}
 use Rattle.cluster_core.specs.declared.StepFault.TheVariants as steps
+use Rattle.report_text.specs.declared.EventAnswer.{EventAnswer}
+use Rattle.report_text.specs.declared.EventAnswer.TheVariants.{Step, Drained, TurnsSpent}
 use Rattle.report_text.specs.declared.EventLine.{EventLine}
 use Rattle.fb_cli.specs.declared.fault.Fault.TheVariants.{VaultFault}
 use Rattle.fb_cli.specs.Causes.{vault_faults_of, vault_faults, RoseBy, RoseInEach, HaveCauses}
@@ -43,7 +43,7 @@ counts_before : (a b c : ℕ) (Q : Type 0) → a ≤ b → Counts b c Q → Coun
 counts_before a b c Q h k = record { later = let l : b ≤ c = k.later in omega arith; rose = λ q. rose_before a b c h k.later (k.rose q) }
 
 -- one more line
-pub each_more : (lines : List EventLine) (line : EventLine) (a b c : ℕ) → RoseInEach lines a b → Counts b c (fault_of line.answer ≡ Some VaultFault) → RoseInEach (lines ++ line ∷ []) a c
+pub each_more : (lines : List EventLine) (line : EventLine) (a b c : ℕ) → RoseInEach lines a b → Counts b c (fault_of line.reply ≡ Some VaultFault) → RoseInEach (lines ++ line ∷ []) a c
 each_more [] line a b c r k = (c, counts_before a b c _ r k, let e : c ≤ c = omega arith in e)
 each_more (x ∷ xs) line a b c r k = (r.0, r.1, each_more xs line r.0 b c r.2 k)
 
@@ -55,21 +55,23 @@ each_last (line ∷ next ∷ rest) a c r q = rose_before a r.0 c r.1.later (each
 
 -- ---- all events
 
-one_more : (answer : Result Answer StepFault) (a b c n : ℕ) → Counts a b (fault_of answer ≡ Some VaultFault) → b ≤ c → RoseBy n b c → RoseBy (vault_faults_of answer + n) a c
-one_more (Ok answer) a b c n k h s = let l : a ≤ b = k.later in elim s [ inl t ↦ inl (omega arith) | inr e ↦ inr e ]
-one_more (Err steps.VaultFault) a b c n k h s =
+one_more : (answer : EventAnswer) (a b c n : ℕ) → Counts a b (fault_of answer ≡ Some VaultFault) → b ≤ c → RoseBy n b c → RoseBy (vault_faults_of answer + n) a c
+one_more (Step (Ok answer)) a b c n k h s = let l : a ≤ b = k.later in elim s [ inl t ↦ inl (omega arith) | inr e ↦ inr e ]
+one_more (Step (Err steps.VaultFault)) a b c n k h s =
     let l : a ≤ b = k.later in
     elim (k.rose refl) [
       | inl less ↦ elim s [ inl t ↦ inl (omega arith) | inr e ↦ inr e ]
       | inr most ↦ inr (omega arith)
     ]
-one_more (Err (steps.VersionsSpent version)) a b c n k h s = let l : a ≤ b = k.later in elim s [ inl t ↦ inl (omega arith) | inr e ↦ inr e ]
-one_more (Err (steps.LogTooLarge bytes)) a b c n k h s = let l : a ≤ b = k.later in elim s [ inl t ↦ inl (omega arith) | inr e ↦ inr e ]
-one_more (Err steps.NoMemory) a b c n k h s = let l : a ≤ b = k.later in elim s [ inl t ↦ inl (omega arith) | inr e ↦ inr e ]
+one_more (Step (Err (steps.VersionsSpent version))) a b c n k h s = let l : a ≤ b = k.later in elim s [ inl t ↦ inl (omega arith) | inr e ↦ inr e ]
+one_more (Step (Err (steps.LogTooLarge bytes))) a b c n k h s = let l : a ≤ b = k.later in elim s [ inl t ↦ inl (omega arith) | inr e ↦ inr e ]
+one_more (Step (Err steps.NoMemory)) a b c n k h s = let l : a ≤ b = k.later in elim s [ inl t ↦ inl (omega arith) | inr e ↦ inr e ]
+one_more (Drained steps) a b c n k h s = let l : a ≤ b = k.later in elim s [ inl t ↦ inl (omega arith) | inr e ↦ inr e ]
+one_more (TurnsSpent turns) a b c n k h s = let l : a ≤ b = k.later in elim s [ inl t ↦ inl (omega arith) | inr e ↦ inr e ]
 
 sum_of : (lines : List EventLine) (a c : ℕ) → RoseInEach lines a c → RoseBy (vault_faults lines) a c
 sum_of [] a c r = let h : a ≤ c = r in inl (omega arith)
-sum_of (line ∷ rest) a c r = one_more line.answer a r.0 c (vault_faults rest) r.1 (each_later rest r.0 c r.2) (sum_of rest r.0 c r.2)
+sum_of (line ∷ rest) a c r = one_more line.reply a r.0 c (vault_faults rest) r.1 (each_later rest r.0 c r.2) (sum_of rest r.0 c r.2)
 
 pub causes_of : (lines : List EventLine) (a c : ℕ) → RoseInEach lines a c → HaveCauses lines a c
 causes_of lines a c r = record { each = r; sum = sum_of lines a c r }

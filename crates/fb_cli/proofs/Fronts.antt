@@ -43,7 +43,7 @@ starved_front p old middle new schedule i lines a b c r l k e h =
     front_at p old new schedule i lines a c (subst (Tells p old lines) (sym e) r) l (each_after lines a b c k h)
 
 -- at a step that there was no memory to note
-pub step_front : (p q : Workload) (old middle new : State) (schedule : List ScheduleLine) (i : ℕ) (d : ScheduleLine) (lines : List EventLine) (line : EventLine) (a b c : ℕ) → q ≡ p → Tells p old lines middle → schedule_of lines ≡ take i schedule → RoseInEach lines a b → TellsTurns q middle line new → i < length schedule → line.line ≡ get_or schedule i d → Counts b c (fault_of line.answer ≡ Some VaultFault) → PlaysFront p old schedule new a c
+pub step_front : (p q : Workload) (old middle new : State) (schedule : List ScheduleLine) (i : ℕ) (d : ScheduleLine) (lines : List EventLine) (line : EventLine) (a b c : ℕ) → q ≡ p → Tells p old lines middle → schedule_of lines ≡ take i schedule → RoseInEach lines a b → TellsTurns q middle line new → i < length schedule → line.line ≡ get_or schedule i d → Counts b c (fault_of line.reply ≡ Some VaultFault) → PlaysFront p old schedule new a c
 step_front p q old middle new schedule i d lines line a b c e r l k step lt told counts =
     front_at p old new schedule (i + 1) (lines ++ line ∷ []) a c
     (run_more p q old middle new lines (lines ++ line ∷ []) line refl e r step)

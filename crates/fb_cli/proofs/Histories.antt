@@ -1,5 +1,5 @@
 -- What a sound end says of the report's histories and of its jobs' containers.
-use Rattle.std.specs.Prelude.{◌≡◌, ℕ, zero, suc, List, [], ◌∷◌, map, Option, Some, slice_get, refl}
+use Rattle.std.specs.Prelude.{◌≡◌, ℕ, zero, suc, List, [], ◌∷◌, ◌++◌, map, Option, Some, slice_get, refl}
 use Rattle.std.proofs.Common.{ap, sym, ◌∙◌, subst}
 use Rattle.mutations.specs.declared.Entry.{Entry}
 use Rattle.workload_text.specs.declared.ClientScript.{ClientScript}
@@ -7,16 +7,16 @@ use Rattle.fb_bytes.specs.Bytes.{Bytes}
 use Rattle.fb_bytes.specs.declared.KeyRange.{KeyRange}
 use Rattle.workload_text.specs.declared.Side.{Side}
 use Rattle.workload_text.specs.declared.Side.TheVariants.{Src, Dst}
+use Rattle.workload_text.specs.declared.Settings.{Settings}
 use Rattle.workload_text.specs.declared.Workload.{Workload}
-use Rattle.client_core.specs.declared.Outcome.{Outcome}
-use Rattle.client_core.specs.Clients.{ClientState}
+use Rattle.client_core.specs.Clients.{ClientState, Told, told_of}
 use Rattle.client_core.specs.Legal.{entries_by, IsLegal}
 use Rattle.cluster_core.specs.State.{State, on_side, opening}
 use Rattle.cluster_core.specs.Sound.{IsOrdered, other_side, IsClientSound, Sound}
 use Rattle.cluster_core.specs.declared.Job.TheVariants as types
 use Rattle.cluster_core.specs.Backups.{Backup}
 use Rattle.cluster_core.specs.declared.Job.{Job}
-use Rattle.cluster_core.specs.Jobs.{JobTold, job_told, started}
+use Rattle.cluster_core.specs.Jobs.{JobTold, job_told, started, range_on, ranges_on}
 use Rattle.cluster_core.proofs.Started.{started_backup}
 use Rattle.cluster_core.specs.Laws.{FaithfulLaw}
 use Rattle.container_view.specs.Contents.{file_grammars}
@@ -24,7 +24,7 @@ use Rattle.container_view.specs.Honest.{IsFaithfulStore}
 use Rattle.report_text.specs.declared.RunReport.{RunReport}
 use Rattle.fb_outside.specs.declared.File.{File}
 use Rattle.workload_text.specs.declared.ScheduleLine.{ScheduleLine}
-use Rattle.fb_cli.specs.Runs.{Tells, schedule_of, HasHistory, AreFaithful, IsRun}
+use Rattle.fb_cli.specs.Runs.{Tells, schedule_of, ranges_told, HasHistory, AreFaithful, IsRun}
 use Rattle.fb_cli.specs.Causes.{RoseInEach}
 use Rattle.fb_cli.specs.Outside.{store_change}
 use Rattle.fb_cli.proofs.KeptElsewhere.{kept_elsewhere}
@@ -42,33 +42,42 @@ find_client [] (suc n) script h = cc
 find_client (c ∷ cs) zero script h = record { client = c; at = refl; script_is = cc }
 find_client (c ∷ cs) (suc n) script h = let f : Found cs n script = find_client cs n script h in record { client = f.client; at = f.at; script_is = f.script_is }
 
-outcomes_at : (clients : List ClientState) (place : ℕ) (client : ClientState) (outcomes : List Outcome) → slice_get clients place ≡ Some client → slice_get (map (λ (client : ClientState). client.outcomes) clients) place ≡ Some outcomes → client.outcomes ≡ outcomes
-outcomes_at [] zero client outcomes h e = cc
-outcomes_at [] (suc n) client outcomes h e = cc
-outcomes_at (c ∷ cs) zero client outcomes h e = let k : c ≡ client = cc in let f : c.outcomes ≡ outcomes = cc in ap (λ (x : ClientState). x.outcomes) (sym k) ∙ f
-outcomes_at (c ∷ cs) (suc n) client outcomes h e = outcomes_at cs n client outcomes h e
+told_at : (clients : List ClientState) (place : ℕ) (client : ClientState) (told : Told) → slice_get clients place ≡ Some client → slice_get (map told_of clients) place ≡ Some told → told_of client ≡ told
+told_at [] zero client told h e = cc
+told_at [] (suc n) client told h e = cc
+told_at (c ∷ cs) zero client told h e = let k : c ≡ client = cc in let f : told_of c ≡ told = cc in ap told_of (sym k) ∙ f
+told_at (c ∷ cs) (suc n) client told h e = told_at cs n client told h e
+
+-- the ranges of the machine's jobs are those that are told
+ranges_are : (side : Side) (jobs : List Job) → ranges_told side (map job_told jobs) ≡ ranges_on side jobs
+ranges_are side [] = refl
+ranges_are side (types.Backup backup ∷ jobs) = ap (λ (rs : List (List KeyRange)). range_on side (types.Backup backup) ++ rs) (ranges_are side jobs)
 
 -- what is said of a client, by its script and outcomes
-abbrev Says : ℕ → ClientScript → List Outcome → List Entry → List Entry → Type 0
-Says place script outcomes src dst = IsLegal (suc place) script.txns outcomes (on_side script.side src dst) × (entries_by (suc place) (on_side (other_side script.side) src dst) ≡ [])
+abbrev Says : Settings → ℕ → ClientScript → Told → List (List KeyRange) → List Entry → List Entry → Type 0
+Says settings place script told logged src dst =
+    (told.script ≡ script)
+    × IsLegal (record { block = settings.block; pace = settings.pace; tries = settings.tries; logged = logged; history = on_side script.side src dst }) (suc place) script.txns told.outcomes
+    × (entries_by (suc place) (on_side (other_side script.side) src dst) ≡ [])
 
-each_client : (p : Workload) (w : State) (place : ℕ) (script : ClientScript) (outcomes : List Outcome) → Sound p w → slice_get p.clients place ≡ Some script → slice_get (map (λ (client : ClientState). client.outcomes) w.clients) place ≡ Some outcomes → Says place script outcomes w.src w.dst
-each_client p w place script outcomes h s o =
+each_client : (p : Workload) (w : State) (place : ℕ) (script : ClientScript) (told : Told) → Sound p w → slice_get p.clients place ≡ Some script → slice_get (map told_of w.clients) place ≡ Some told → Says p.settings place script told (ranges_on script.side w.jobs) w.src w.dst
+each_client p w place script told h s o =
     let f : Found w.clients place script = find_client w.clients place script (ap (λ (xs : List ClientScript). slice_get xs place) h.clients.scripts_are ∙ s) in
-    let k : IsClientSound w.src w.dst (suc place) f.client = h.clients.each (suc place) f.client f.at in
-    let told : f.client.outcomes ≡ outcomes = outcomes_at w.clients place f.client outcomes f.at o in
-    let P : ClientScript → List Outcome → Type 0 = λ x os. Says place x os w.src w.dst in
-    subst (λ (os : List Outcome). P script os) told (subst (λ (x : ClientScript). P x f.client.outcomes) f.script_is (k.legal, k.apart))
+    let k : IsClientSound p.settings w.time w.jobs w.src w.dst (suc place) f.client = h.clients.each (suc place) f.client f.at in
+    let P : ClientScript → Told → Type 0 = λ x t. Says p.settings place x t (ranges_on x.side w.jobs) w.src w.dst in
+    subst (λ (t : Told). P script t) (told_at w.clients place f.client told f.at o)
+    (subst (λ (x : ClientScript). P x (told_of f.client)) f.script_is (refl, k.sound.legal, k.apart))
 
 -- a report of a sound state has its histories right
-has_history : (workload : Workload) (w : State) (report : RunReport) → Sound workload w → report.src ≡ w.src → report.dst ≡ w.dst → report.outcomes ≡ map (λ (client : ClientState). client.outcomes) w.clients → report.end ≡ w.time → HasHistory workload report
-has_history workload w report h src dst outcomes end = record {
+has_history : (workload : Workload) (w : State) (report : RunReport) → Sound workload w → report.src ≡ w.src → report.dst ≡ w.dst → report.outcomes ≡ map told_of w.clients → report.jobs ≡ map job_told w.jobs → report.end ≡ w.time → HasHistory workload report
+has_history workload w report h src dst outcomes jobs end = record {
   src = subst (λ (t : ℕ). IsOrdered t report.src) (sym end) (subst (λ (xs : List Entry). IsOrdered w.time xs) (sym src) (h.databases.histories Src));
   dst = subst (λ (t : ℕ). IsOrdered t report.dst) (sym end) (subst (λ (xs : List Entry). IsOrdered w.time xs) (sym dst) (h.databases.histories Dst));
   clients = λ place script told s o.
-      subst (λ (ys : List Entry). Says place script told report.src ys) (sym dst)
-      (subst (λ (xs : List Entry). Says place script told xs w.dst) (sym src)
-      (each_client workload w place script told h s (ap (λ (os : List (List Outcome)). slice_get os place) (sym outcomes) ∙ o)));
+      subst (λ (rs : List (List KeyRange)). Says workload.settings place script told rs report.src report.dst) (sym (ap (ranges_told script.side) jobs ∙ ranges_are script.side w.jobs))
+      (subst (λ (ys : List Entry). Says workload.settings place script told (ranges_on script.side w.jobs) report.src ys) (sym dst)
+      (subst (λ (xs : List Entry). Says workload.settings place script told (ranges_on script.side w.jobs) xs w.dst) (sym src)
+      (each_client workload w place script told h s (ap (λ (ts : List Told). slice_get ts place) (sym outcomes) ∙ o))));
 }
 
 -- ---- containers
@@ -119,7 +128,7 @@ are_faithful law p w files' report h src dst jobs end stored files f place told 
 
 -- ---- the report
 
-told_by : (workload begun ended : Workload) (files files' : Option (List File)) (f f' : ℕ) (final : State) (report : RunReport) (schedule : List ScheduleLine) → FaithfulLaw → begun ≡ workload → Tells workload (opening workload files) report.lines final → schedule_of report.lines ≡ schedule → RoseInEach report.lines f f' → schedule ≡ workload.schedule → report.commands ≡ [] → ended ≡ begun → report.src ≡ final.src → report.dst ≡ final.dst → report.outcomes ≡ map (λ (client : ClientState). client.outcomes) final.clients → report.jobs ≡ map job_told final.jobs → report.end ≡ final.time → files' ≡ final.files → Sound ended final → IsRun workload (store_change files files' f f') report
+told_by : (workload begun ended : Workload) (files files' : Option (List File)) (f f' : ℕ) (final : State) (report : RunReport) (schedule : List ScheduleLine) → FaithfulLaw → begun ≡ workload → Tells workload (opening workload files) report.lines final → schedule_of report.lines ≡ schedule → RoseInEach report.lines f f' → schedule ≡ workload.schedule → report.commands ≡ [] → ended ≡ begun → report.src ≡ final.src → report.dst ≡ final.dst → report.outcomes ≡ map told_of final.clients → report.jobs ≡ map job_told final.jobs → report.end ≡ final.time → files' ≡ final.files → Sound ended final → IsRun workload (store_change files files' f f') report
 told_by workload begun ended files files' f f' final report schedule law b r l k s n e src dst outcomes jobs end stored sound =
     let h : Sound workload final = subst (λ (x : Workload). Sound x final) (e ∙ b) sound in
     record {
@@ -135,14 +144,14 @@ told_by workload begun ended files files' f f' final report schedule law b r l k
         end = end;
         stored = stored;
       };
-      history = has_history workload final report h src dst outcomes end;
+      history = has_history workload final report h src dst outcomes jobs end;
       faithful = are_faithful law workload final files' report h src dst jobs end stored;
       elsewhere = kept_elsewhere workload final files files' report r jobs stored;
       causes = causes_of report.lines f f' k;
     }
 
 -- a run over the whole schedule, told by its report
-pub tells : (workload begun ended : Workload) (files files' : Option (List File)) (f f' a c : ℕ) (old final : State) (report : RunReport) (schedule : List ScheduleLine) → FaithfulLaw → begun ≡ workload → old ≡ opening workload files → a ≡ f → f' ≡ c → Tells begun old report.lines final → schedule_of report.lines ≡ schedule → RoseInEach report.lines a c → schedule ≡ workload.schedule → report.commands ≡ [] → ended ≡ begun → report.src ≡ final.src → report.dst ≡ final.dst → report.outcomes ≡ map (λ (client : ClientState). client.outcomes) final.clients → report.jobs ≡ map job_told final.jobs → report.end ≡ final.time → files' ≡ final.files → Sound ended final → IsRun workload (store_change files files' f f') report
+pub tells : (workload begun ended : Workload) (files files' : Option (List File)) (f f' a c : ℕ) (old final : State) (report : RunReport) (schedule : List ScheduleLine) → FaithfulLaw → begun ≡ workload → old ≡ opening workload files → a ≡ f → f' ≡ c → Tells begun old report.lines final → schedule_of report.lines ≡ schedule → RoseInEach report.lines a c → schedule ≡ workload.schedule → report.commands ≡ [] → ended ≡ begun → report.src ≡ final.src → report.dst ≡ final.dst → report.outcomes ≡ map told_of final.clients → report.jobs ≡ map job_told final.jobs → report.end ≡ final.time → files' ≡ final.files → Sound ended final → IsRun workload (store_change files files' f f') report
 tells workload begun ended files files' f f' a c old final report schedule law b o before after r l k s n e src dst outcomes jobs end stored sound =
     told_by workload begun ended files files' f f' final report schedule law b
     (subst (λ (x : Workload). Tells x (opening workload files) report.lines final) b (subst (λ (w : State). Tells begun w report.lines final) o r))

@@ -7,3 +7,4 @@ pub mod Texts
 pub mod Replaying
 pub mod Restoring
 pub mod Listing
+pub mod Expiring

@@ -14,7 +14,7 @@ use Rattle.workload_text.specs.declared.Workload.{Workload}
 use Rattle.workload_text.specs.Grammar.{Built, what}
 use Rattle.report_text.specs.declared.Report.{Report}
 use Rattle.fb_cli.specs.declared.fault.Fault.{Fault}
-use Rattle.fb_cli.specs.declared.fault.Fault.TheVariants.{Usage, TextRefused, SourceFault, SinkFault, VaultFault, NotRestorable, Damaged, VersionsSpent, LogTooLarge, NoMemory, NoContainer, Missing, NotBuilt}
+use Rattle.fb_cli.specs.declared.fault.Fault.TheVariants.{Usage, TextRefused, SourceFault, SinkFault, VaultFault, NotRestorable, Damaged, CannotExpire, VersionsSpent, LogTooLarge, NoMemory, NoContainer, Missing, NotBuilt}
 use Rattle.fb_cli.specs.Later.{playable}
 use Rattle.fb_cli.specs.Runs.{IsRunReport, fault_in}
 use Rattle.fb_cli.specs.Replays.{IsPlayed, AnswersText, IsOfReplay, IsUnplayed, IsSaid, Replays, OwesStore, SaysText, ReadsText}
@@ -25,11 +25,13 @@ says_ok (Ok b) workload h = ap Ok h
 says_ok (Err refusal) workload h = absurd h
 
 text_says : (source : Stream) (workload : Workload) → ReadsText source (Ok workload) → IsSaid source.before workload
-text_says source workload h bytes e =
-    elim (h.answer bytes e) [
-      | inl p ↦ cc
-      | inr q ↦ elim q [ inl p ↦ cc | inr s ↦ says_ok (playable bytes) workload s ]
-    ]
+text_says source workload h = record {
+  all = h.all;
+  says = λ bytes e. elim (h.answer bytes e) [
+    | inl p ↦ cc
+    | inr q ↦ elim q [ inl p ↦ cc | inr s ↦ says_ok (playable bytes) workload s ]
+  ];
+}
 
 run_of : (source : Stream) (store : Store) (workload : Workload) (report : Option Report) → IsSaid source.before workload → IfSome report (IsRunReport workload store) → IfSome report (λ r. (w : Workload) × IsSaid source.before w × IsRunReport w store r)
 run_of source store workload None t h = tt
@@ -47,6 +49,7 @@ played_kind (Some (LogTooLarge bytes)) k = tt
 played_kind (Some NoMemory) k = tt
 played_kind (Some (NotRestorable low high)) k = elim k [ inl e ↦ e | inr e ↦ cc ]
 played_kind (Some (Damaged name fault)) k = elim k [ inl e ↦ e | inr e ↦ cc ]
+played_kind (Some (CannotExpire wanted left)) k = elim k [ inl e ↦ e | inr e ↦ cc ]
 played_kind (Some NoContainer) k = elim k [ inl e ↦ e | inr e ↦ cc ]
 played_kind (Some (Missing name)) k = elim k [ inl e ↦ e | inr e ↦ cc ]
 played_kind (Some (NotBuilt line)) k = tt
@@ -61,7 +64,7 @@ played source store workload report fault h kinds reported run last front = reco
   last = last;
   front = inr (workload, text_says source workload h, front);
   kind = played_kind fault kinds;
-  answer = λ bytes e. inr (subst (λ (r : Result Built Fault). AnswersText r fault) (sym (text_says source workload h bytes e)) kinds);
+  answer = λ bytes e. inr (subst (λ (r : Result Built Fault). AnswersText r fault) (sym ((text_says source workload h).says bytes e)) kinds);
   count = no_fault (fault ≡ Some SourceFault) (Ok workload ≡ Err SourceFault) source.faults_before source.faults_after h.count (not_source fault kinds);
   read = λ bytes e le r. h.read bytes e le tt;
 }
@@ -80,6 +83,7 @@ played_not_idle (Some (LogTooLarge bytes)) k u = u
 played_not_idle (Some NoMemory) k u = u
 played_not_idle (Some (NotRestorable low high)) k u = u
 played_not_idle (Some (Damaged name fault)) k u = u
+played_not_idle (Some (CannotExpire wanted left)) k u = u
 played_not_idle (Some NoContainer) k u = u
 played_not_idle (Some (Missing name)) k u = u
 played_not_idle (Some (NotBuilt line)) k u = elim k [ inl e ↦ e | inr e ↦ cc ]

@@ -25,6 +25,7 @@ no_fault P Q f f' c n = record { later = c.later; rose = λ p. absurd (n p) }
 pub failed_text : (left left' : Option Bytes) (f f' : ℕ) (Q : Type 0) → Counts f f' Q → Q → ReadsText (stream_change left left' f f') (Err SourceFault)
 failed_text left left' f f' Q c q = record {
   answer = λ bytes e. inl refl;
+  all = tt;
   kind = tt;
   count = record { later = c.later; rose = λ _. c.rose q };
   read = λ bytes e le r. absurd r;
@@ -55,6 +56,7 @@ unread fault = Err fault
 refused_text : (left left' : Option Bytes) (f f' : ℕ) (Q : Type 0) (text : Bytes) (refusal : Fault) → Counts f f' Q → ((bytes : Bytes) → left ≡ Some bytes → (text ≡ bytes) × (left' ≡ Some [])) → playable text ≡ Err refusal → IsOfReading (Some refusal) → (unread refusal ≡ unread SourceFault → ⊥) → ReadsText (stream_change left left' f f') (Err refusal)
 refused_text left left' f f' Q text refusal c h b r n = record {
   answer = λ bytes e. let k = h bytes e in inr (inr (subst (λ (t : Bytes). SaysText (playable t) (Err refusal)) k.0 (says_refused (playable text) refusal b)));
+  all = tt;
   kind = r;
   count = no_fault (unread refusal ≡ unread SourceFault) Q f f' c n;
   read = λ bytes e le q. let k = h bytes e in k.1;
@@ -63,6 +65,7 @@ refused_text left left' f f' Q text refusal c h b r n = record {
 pub long_text : (left left' : Option Bytes) (f f' : ℕ) (Q : Type 0) → Counts f f' Q → ((bytes : Bytes) → left ≡ Some bytes → most_bytes < length bytes) → ReadsText (stream_change left left' f f') (Err (TextRefused 0 Long))
 long_text left left' f f' Q c h = record {
   answer = λ bytes e. inr (inr (says_refused (playable bytes) (TextRefused 0 Long) (bad_playable bytes 0 Long (too_long bytes (h bytes e)))));
+  all = tt;
   kind = tt;
   count = no_fault (Err (TextRefused 0 Long) ≡ Err SourceFault) Q f f' c (λ p. cc);
   read = λ bytes e le r. let l : most_bytes < length bytes = h bytes e in absurd (omega arith);
@@ -71,6 +74,7 @@ long_text left left' f f' Q c h = record {
 pub starved_text : (left left' : Option Bytes) (f f' : ℕ) (Q : Type 0) → Counts f f' Q → ReadsText (stream_change left left' f f') (Err NoMemory)
 starved_text left left' f f' Q c = record {
   answer = λ bytes e. inr (inl refl);
+  all = tt;
   kind = tt;
   count = no_fault (Err NoMemory ≡ Err SourceFault) Q f f' c (λ p. cc);
   read = λ bytes e le r. absurd r;
@@ -79,6 +83,7 @@ starved_text left left' f f' Q c = record {
 pub built_text : (left left' : Option Bytes) (f f' : ℕ) (Q : Type 0) (text : Bytes) (workload : Workload) → Counts f f' Q → ((bytes : Bytes) → left ≡ Some bytes → (text ≡ bytes) × (left' ≡ Some [])) → built false text ≡ Ok (what workload) → is_played (what workload) ≡ true → ReadsText (stream_change left left' f f') (Ok workload)
 built_text left left' f f' Q text workload c h b l = record {
   answer = λ bytes e. let k = h bytes e in inr (inr (subst (λ (t : Bytes). SaysText (playable t) (Ok workload)) k.0 (subst (λ (r : Result Built Fault). SaysText r (Ok workload)) (sym (good_playable text (what workload) true b l)) refl)));
+  all = l;
   kind = tt;
   count = no_fault (Ok workload ≡ Err SourceFault) Q f f' c (λ p. cc);
   read = λ bytes e le r. let k = h bytes e in k.1;

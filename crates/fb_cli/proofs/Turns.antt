@@ -1,13 +1,13 @@
 -- Runs, an event line at a time.
-use Rattle.std.specs.Prelude.{◌≡◌, ℕ, suc, ◌+◌, ◌-◌, ◌<◌, List, [], ◌∷◌, ◌++◌, map, length, take, slice_get, Option, Some, None, Result, Ok, Err, refl}
+use Rattle.std.specs.Prelude.{◌≡◌, ℕ, suc, ◌+◌, ◌-◌, ◌<◌, List, [], ◌∷◌, ◌++◌, map, length, take, slice_get, Option, Some, None, Ok, Err, refl}
 use Rattle.std.proofs.Common.{ap, sym, ◌∙◌, arith, subst, get_or}
 use Rattle.std.proofs.lemmas.List.{take_more}
 use Rattle.workload_text.specs.declared.ScheduleLine.{ScheduleLine}
 use Rattle.workload_text.specs.declared.Workload.{Workload}
-use Rattle.cluster_core.specs.declared.Answer.{Answer}
-use Rattle.cluster_core.specs.declared.StepFault.{StepFault}
 use Rattle.cluster_core.specs.declared.StepFault.TheVariants as steps
 use Rattle.cluster_core.specs.State.{State}
+use Rattle.report_text.specs.declared.EventAnswer.{EventAnswer}
+use Rattle.report_text.specs.declared.EventAnswer.TheVariants.{Step, Drained, TurnsSpent}
 use Rattle.report_text.specs.declared.EventLine.{EventLine}
 use Rattle.fb_cli.specs.declared.fault.Fault.{Fault}
 use Rattle.fb_cli.specs.Faults.{fault_of, last_fault}
@@ -29,6 +29,10 @@ pub run_more : (p q : Workload) (old middle new : State) (lines all : List Event
 run_more p q old middle new lines all line a e r k =
     subst (λ (xs : List EventLine). Tells p old xs new) (sym a) (Tells-snoc p old middle new lines line r (subst (λ (x : Workload). TellsTurns x middle line new) e k))
 
+-- what was pushed is what was to be kept
+pub pushed : (lines all : List EventLine) (kept told : EventLine) → all ≡ lines ++ kept ∷ [] → kept ≡ told → all ≡ lines ++ told ∷ []
+pushed lines all kept told a e = a ∙ ap (λ (x : EventLine). lines ++ x ∷ []) e
+
 -- the schedule's lines so far
 pub lines_more : (lines all : List EventLine) (told : EventLine) (schedule : List ScheduleLine) (i : ℕ) (d : ScheduleLine) → all ≡ lines ++ told ∷ [] → schedule_of lines ≡ take i schedule → i < length schedule → told.line ≡ get_or schedule i d → schedule_of all ≡ take (i + 1) schedule
 lines_more lines all told schedule i d a h lt e =
@@ -43,7 +47,7 @@ lines_more lines all told schedule i d a h lt e =
 -- the refusal of an event line, where there is one
 abbrev fault_at : Option EventLine → Option Fault
 fault_at None = None
-fault_at (Some line) = fault_of line.answer
+fault_at (Some line) = fault_of line.reply
 
 last_is : (lines : List EventLine) → fault_at (slice_get lines (length lines - 1)) ≡ last_fault lines
 last_is [] = refl
@@ -52,26 +56,28 @@ last_is (line ∷ next ∷ rest) =
     ap (λ (n : ℕ). fault_at (slice_get (line ∷ next ∷ rest) n)) (let e : length (line ∷ next ∷ rest) - 1 ≡ suc (length (next ∷ rest) - 1) = omega arith in e)
     ∙ last_is (next ∷ rest)
 
-pub some_last : (lines : List EventLine) (line : EventLine) → slice_get lines (length lines - 1) ≡ Some line → fault_of line.answer ≡ last_fault lines
+pub some_last : (lines : List EventLine) (line : EventLine) → slice_get lines (length lines - 1) ≡ Some line → fault_of line.reply ≡ last_fault lines
 some_last lines line e = ap fault_at (sym e) ∙ last_is lines
 
-last-snoc : (lines : List EventLine) (line : EventLine) → last_fault (lines ++ line ∷ []) ≡ fault_of line.answer
+last-snoc : (lines : List EventLine) (line : EventLine) → last_fault (lines ++ line ∷ []) ≡ fault_of line.reply
 last-snoc [] line = refl
 last-snoc (x ∷ []) line = refl
 last-snoc (x ∷ y ∷ ys) line = last-snoc (y ∷ ys) line
 
 -- an answer but want of memory ends no replay before its end
-played_answer : (answer : Result Answer StepFault) → (answer ≡ Err steps.NoMemory → ⊥) → IsPlayed (fault_of answer)
-played_answer (Ok answer) h = tt
-played_answer (Err steps.VaultFault) h = tt
-played_answer (Err (steps.VersionsSpent version)) h = tt
-played_answer (Err (steps.LogTooLarge bytes)) h = tt
-played_answer (Err steps.NoMemory) h = absurd (h refl)
+played_answer : (answer : EventAnswer) → (answer ≡ Step (Err steps.NoMemory) → ⊥) → IsPlayed (fault_of answer)
+played_answer (Step (Ok answer)) h = tt
+played_answer (Step (Err steps.VaultFault)) h = tt
+played_answer (Step (Err (steps.VersionsSpent version))) h = tt
+played_answer (Step (Err (steps.LogTooLarge bytes))) h = tt
+played_answer (Step (Err steps.NoMemory)) h = absurd (h refl)
+played_answer (Drained steps) h = tt
+played_answer (TurnsSpent turns) h = tt
 
 -- a run that is told was played to its end
 played_lines : (p : Workload) (old new : State) (lines : List EventLine) → Tells p old lines new → IsPlayed (last_fault lines)
 played_lines p old new [] r = tt
-played_lines p old new (line ∷ []) r = let k = r.1 in played_answer line.answer k.memory
+played_lines p old new (line ∷ []) r = let k = r.1 in played_answer line.reply k.memory
 played_lines p old new (line ∷ next ∷ rest) r = played_lines p r.0 new (next ∷ rest) r.2
 
 -- and its refusal is that of a replay which was played

@@ -1,22 +1,22 @@
 -- That each line of a report which says a fault of the store has its cause.
-use Rattle.std.specs.Prelude.{◌≡◌, ℕ, ◌+◌, ◌≤◌, List, [], ◌∷◌, Some, Result, Err, ◌⊎◌}
+use Rattle.std.specs.Prelude.{◌≡◌, ℕ, ◌+◌, ◌≤◌, List, [], ◌∷◌, Some, Err, ◌⊎◌}
 use Rattle.fb_outside.specs.Faults.{most_faults, Counts}
-use Rattle.cluster_core.specs.declared.Answer.{Answer}
-use Rattle.cluster_core.specs.declared.StepFault.{StepFault}
 use Rattle.cluster_core.specs.declared.StepFault.TheVariants as steps
+use Rattle.report_text.specs.declared.EventAnswer.{EventAnswer}
+use Rattle.report_text.specs.declared.EventAnswer.TheVariants.{Step}
 use Rattle.report_text.specs.declared.EventLine.{EventLine}
 use Rattle.fb_cli.specs.declared.fault.Fault.TheVariants.{VaultFault}
 use Rattle.fb_cli.specs.Faults.{fault_of}
 
 -- one for an answer that says a fault of the store, else none
-abbrev pub vault_faults_of : Result Answer StepFault → ℕ
-vault_faults_of (Err steps.VaultFault) = 1
+abbrev pub vault_faults_of : EventAnswer → ℕ
+vault_faults_of (Step (Err steps.VaultFault)) = 1
 vault_faults_of answer = 0
 
 -- how many of the event lines say a fault of the store
 abbrev pub vault_faults : List EventLine → ℕ
 vault_faults [] = 0
-vault_faults (line ∷ rest) = vault_faults_of line.answer + vault_faults rest
+vault_faults (line ∷ rest) = vault_faults_of line.reply + vault_faults rest
 
 -- The count is at least so much greater, or it stands at its end.
 abbrev pub RoseBy : ℕ → ℕ → ℕ → Type 0
@@ -27,7 +27,7 @@ abbrev pub RoseInEach : List EventLine → ℕ → ℕ → Type 0
 RoseInEach [] before after = before ≤ after
 RoseInEach (line ∷ rest) before after =
     (middle : ℕ)
-    × Counts before middle (fault_of line.answer ≡ Some VaultFault)
+    × Counts before middle (fault_of line.reply ≡ Some VaultFault)
     × RoseInEach rest middle after
 
 -- Each of the event lines that says a fault of the store has its cause: the store's count rose in

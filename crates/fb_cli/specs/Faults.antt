@@ -1,19 +1,20 @@
 -- The refusals of a command: their statuses and their lines.
 use Rattle.std.specs.Prelude.{ℕ, List, [], ◌∷◌, ◌++◌, Option, Some, None}
-use Rattle.std.specs.Prelude.{Result, Ok, Err, codes, decimal}
+use Rattle.std.specs.Prelude.{codes, decimal, option_map}
 use Rattle.fb_bytes.specs.Bytes.{Bytes}
-use Rattle.cluster_core.specs.declared.Answer.{Answer}
 use Rattle.cluster_core.specs.declared.StepFault.{StepFault}
 use Rattle.cluster_core.specs.declared.StepFault.TheVariants as steps
 use Rattle.workload_text.specs.Faults.{kind_word}
+use Rattle.report_text.specs.declared.EventAnswer.{EventAnswer}
 use Rattle.report_text.specs.declared.EventLine.{EventLine}
+use Rattle.report_text.specs.Events.{fault_in}
 use Rattle.report_text.specs.Descriptions.{number_or_none}
 use Rattle.report_text.specs.Faults.{file_fault_words}
 use Rattle.report_text.specs.Lines.{behind}
 use Rattle.fb_cli.specs.declared.fault.Fault.{Fault}
 use Rattle.fb_cli.specs.declared.fault.Fault.TheVariants.{Usage, TextRefused}
 use Rattle.fb_cli.specs.declared.fault.Fault.TheVariants.{SourceFault, SinkFault, VaultFault}
-use Rattle.fb_cli.specs.declared.fault.Fault.TheVariants.{NotRestorable, Damaged}
+use Rattle.fb_cli.specs.declared.fault.Fault.TheVariants.{NotRestorable, Damaged, CannotExpire}
 use Rattle.fb_cli.specs.declared.fault.Fault.TheVariants.{VersionsSpent, LogTooLarge}
 use Rattle.fb_cli.specs.declared.fault.Fault.TheVariants.{NoMemory, NoContainer, Missing, NotBuilt}
 
@@ -27,6 +28,7 @@ status_of (Some SinkFault) = 4
 status_of (Some VaultFault) = 5
 status_of (Some (NotRestorable low high)) = 6
 status_of (Some (Damaged name fault)) = 7
+status_of (Some (CannotExpire wanted left)) = 8
 status_of (Some (VersionsSpent version)) = 10
 status_of (Some NoMemory) = 12
 status_of (Some NoContainer) = 13
@@ -52,22 +54,28 @@ refusal_line (Some (NotRestorable low high)) =
     ++ (number_or_none low ++ (codes " " ++ (number_or_none high ++ codes "\n")))
 refusal_line (Some (Damaged name fault)) =
     codes "refused damaged " ++ (name ++ behind (file_fault_words fault))
+refusal_line (Some (CannotExpire wanted left)) =
+    codes "refused cannot-expire "
+    ++ (decimal wanted ++ (codes " " ++ (number_or_none left ++ codes "\n")))
 refusal_line (Some NoMemory) = []
 refusal_line (Some NoContainer) = codes "refused no-container\n"
 refusal_line (Some (Missing name)) = codes "refused missing " ++ (name ++ codes "\n")
 refusal_line (Some (NotBuilt line)) =
     codes "refused not-built " ++ decimal line ++ codes "\n"
 
--- the refusal of a command whose last step was answered so
-abbrev pub fault_of : Result Answer StepFault → Option Fault
-fault_of (Ok answer) = None
-fault_of (Err steps.VaultFault) = Some VaultFault
-fault_of (Err (steps.VersionsSpent version)) = Some (VersionsSpent version)
-fault_of (Err (steps.LogTooLarge bytes)) = Some (LogTooLarge bytes)
-fault_of (Err steps.NoMemory) = Some NoMemory
+-- the refusal of a command whose last step was refused so
+abbrev pub refusal_of_step : StepFault → Fault
+refusal_of_step steps.VaultFault = VaultFault
+refusal_of_step (steps.VersionsSpent version) = VersionsSpent version
+refusal_of_step (steps.LogTooLarge bytes) = LogTooLarge bytes
+refusal_of_step steps.NoMemory = NoMemory
+
+-- the refusal of a command whose last event was answered so
+abbrev pub fault_of : EventAnswer → Option Fault
+fault_of reply = option_map refusal_of_step (fault_in reply)
 
 -- the refusal by the answer of the last event; the answers before it have no say
 abbrev pub last_fault : List EventLine → Option Fault
 last_fault [] = None
-last_fault (line ∷ []) = fault_of line.answer
+last_fault (line ∷ []) = fault_of line.reply
 last_fault (line ∷ next ∷ rest) = last_fault (next ∷ rest)

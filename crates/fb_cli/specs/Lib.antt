@@ -7,6 +7,7 @@ pub mod Later
 pub mod Replays
 pub mod Restores
 pub mod Describes
+pub mod Expires
 pub mod Lists
 pub mod Requests
 pub mod Shows

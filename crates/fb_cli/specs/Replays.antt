@@ -1,13 +1,13 @@
 -- What a replay comes to.
-use Rattle.std.specs.Prelude.{◌≡◌, ◌≤◌, ℕ, [], length, Option, Some, None, Result, Ok, Err, ◌⊎◌}
-use Rattle.std.specs.Prelude.{is_some, IsSome, IfSome, ◌↔◌}
+use Rattle.std.specs.Prelude.{◌≡◌, ◌≤◌, ℕ, true, [], length, Option, Some, None, Result, Ok, Err, ◌⊎◌}
+use Rattle.std.specs.Prelude.{is_some, IsSome, IfSome, IfOk, ◌↔◌}
 use Rattle.fb_bytes.specs.Bytes.{Bytes}
 use Rattle.fb_outside.specs.Faults.{Counts}
 use Rattle.workload_text.specs.declared.Workload.{Workload}
 use Rattle.workload_text.specs.Grammar.{Built, what, most_bytes}
 use Rattle.report_text.specs.declared.Report.{Report}
 use Rattle.fb_cli.specs.Fronts.{LeavesFront}
-use Rattle.fb_cli.specs.Later.{playable}
+use Rattle.fb_cli.specs.Later.{is_played, playable}
 use Rattle.fb_cli.specs.Outside.{Stream, Store, IsLeft}
 use Rattle.fb_cli.specs.Runs.{IsRunReport, fault_in}
 use Rattle.fb_cli.specs.declared.fault.Fault.{Fault}
@@ -64,9 +64,11 @@ abbrev pub AnswersText : Result Built Fault → Option Fault → Type 0
 AnswersText (Ok what) fault = IsPlayed fault ⊎ (fault ≡ Some NoMemory)
 AnswersText (Err refusal) fault = (fault ≡ Some refusal) ⊎ (fault ≡ Some NoMemory)
 
--- The workload is what the source's text says, where the source tells it.
-abbrev pub IsSaid : Option Bytes → Workload → Type 0
-IsSaid text workload = (bytes : Bytes) → text ≡ Some bytes → playable bytes ≡ Ok (what workload)
+-- All that the workload says is played, and it is what the source's text says, where the source
+-- tells it.
+pub record IsSaid (text : Option Bytes) (workload : Workload) : Type 0 where
+  pub all : is_played (what workload) ≡ true
+  pub says : (bytes : Bytes) → text ≡ Some bytes → playable bytes ≡ Ok (what workload)
 
 -- A replay of what a source has left, over a file store.
 pub record Replays
@@ -118,6 +120,7 @@ SaysText (Err refusal) (Ok workload) = ⊥
 pub record ReadsText (source : Stream) (result : Result Workload Fault) : Type 0 where
   pub answer : (bytes : Bytes) → source.before ≡ Some bytes →
       (result ≡ Err SourceFault) ⊎ ((result ≡ Err NoMemory) ⊎ SaysText (playable bytes) result)
+  pub all : IfOk result (λ workload. is_played (what workload) ≡ true)
   pub kind : IsOfReading (fault_of_read result)
   pub count : Counts source.faults_before source.faults_after (result ≡ Err SourceFault)
   pub read : (bytes : Bytes) → source.before ≡ Some bytes → length bytes ≤ most_bytes →

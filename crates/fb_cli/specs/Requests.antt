@@ -1,6 +1,7 @@
 -- What the words of the program ask for.
-use Rattle.std.specs.Prelude.{ℕ, ◌*◌, Bool, true, false, not, ◌&&◌, ◌||◌, if◌then◌else◌}
+use Rattle.std.specs.Prelude.{ℕ, ◌*◌, Bool, true, false, not, ◌&&◌, if◌then◌else◌}
 use Rattle.std.specs.Prelude.{nat_eq, nat_le, List, [], ◌∷◌, Option, Some, None, is_some, codes}
+use Rattle.std.specs.Prelude.{unwrap_or}
 use Rattle.std.specs.List.{filter}
 use Rattle.fb_bytes.specs.Bytes.{Bytes, is_same}
 use Rattle.fb_bytes.specs.Options.{◌>>=◌}
@@ -13,6 +14,7 @@ pub data Request : Type 0 where
   Replay : (brief : Bool) → Request
   Restore : (container : Bytes) (version : ℕ) → Request
   Describe : (container : Bytes) → Request
+  Expire : (container : Bytes) (cutoff wanted : ℕ) (force : Bool) → Request
   Listing : Request
   -- a command in its form that isn't built yet
   Later : Request
@@ -45,17 +47,24 @@ flag_in flag (option ∷ other ∷ rest) = None
 abbrev pub is_force : Bytes → Bool
 is_force option = is_same option (codes "--force")
 
--- an option with a number behind it
-abbrev pub is_wanted : Bytes → Bool
-is_wanted option = is_some (after (codes "--restorable-after=") option >>= property_of)
+-- the number behind an option that says the wanted version
+abbrev pub wanted_in : Bytes → Option ℕ
+wanted_in option = after (codes "--restorable-after=") option >>= property_of
 
--- both options of `expire`, in either order, or one, or none
-abbrev pub are_of_expire : List Bytes → Bool
-are_of_expire [] = true
-are_of_expire (option ∷ []) = is_force option || is_wanted option
-are_of_expire (one ∷ other ∷ []) =
-    (is_force one && is_wanted other) || (is_wanted one && is_force other)
-are_of_expire (one ∷ other ∷ third ∷ rest) = false
+-- the version that is wanted, if an option says one, and whether the expire is forced
+abbrev pub terms_with : Bool → Option ℕ → Option (Option ℕ × Bool)
+terms_with force None = None
+terms_with force (Some wanted) = Some (Some wanted, force)
+
+-- the terms of an expire by both options, in either order, or one, or none
+abbrev pub expire_terms : List Bytes → Option (Option ℕ × Bool)
+expire_terms [] = Some (None, false)
+expire_terms (option ∷ []) =
+    if is_force option then Some (None, true) else terms_with false (wanted_in option)
+expire_terms (one ∷ other ∷ []) =
+    if is_force one then terms_with true (wanted_in other)
+    else if is_force other then terms_with true (wanted_in one) else None
+expire_terms (one ∷ other ∷ third ∷ rest) = None
 
 -- ---- numbers
 
@@ -81,6 +90,13 @@ replay_with (Some brief) = Replay brief
 abbrev pub restore_at : Bytes → Option ℕ → Request
 restore_at container None = Misused
 restore_at container (Some version) = Restore container version
+
+-- an expire up to the cutoff, where its words are in their form; the cutoff is wanted where no
+-- other version is
+abbrev pub expire_at : Bytes → Option ℕ → Option (Option ℕ × Bool) → Request
+expire_at container (Some cutoff) (Some terms) =
+    Expire container cutoff (unwrap_or terms.0 cutoff) terms.1
+expire_at container cutoff terms = Misused
 
 -- a command that isn't built yet, where its words are in their form
 abbrev pub later_if : Bool → Request
@@ -111,7 +127,8 @@ restore_of words options = Misused
 -- expire CONTAINER CUTOFF [--restorable-after=N] [--force]
 abbrev pub expire_of : List Bytes → List Bytes → Request
 expire_of (container ∷ cutoff ∷ []) options =
-    later_if (is_container_name container && is_number cutoff && are_of_expire options)
+    if is_container_name container
+    then expire_at container (property_of cutoff) (expire_terms options) else Misused
 expire_of words options = Misused
 
 -- list

@@ -1,7 +1,7 @@
 -- What the report of a run says.
 use Rattle.std.specs.Prelude.{◌≡◌, ◌≢◌, ℕ, suc, List, [], ◌∷◌, map, Option, Some, None, Err}
-use Rattle.std.specs.Prelude.{option_map, slice_get}
-use Rattle.std.specs.List.{AllByRecursion}
+use Rattle.std.specs.Prelude.{option_map, slice_get, if◌then◌else◌}
+use Rattle.std.specs.List.{AllByRecursion, flat_map}
 use Rattle.fb_bytes.specs.Bytes.{Bytes}
 use Rattle.fb_bytes.specs.declared.KeyRange.{KeyRange}
 use Rattle.workload_text.specs.declared.Side.{Side}
@@ -11,21 +11,24 @@ use Rattle.container_view.specs.Honest.{IsFaithfulStore}
 use Rattle.container_view.specs.Law.{Source}
 use Rattle.workload_text.specs.declared.ScheduleLine.{ScheduleLine}
 use Rattle.workload_text.specs.declared.ScheduleLine.TheVariants as lines
+use Rattle.workload_text.specs.declared.Settings.{Settings}
 use Rattle.workload_text.specs.declared.Workload.{Workload}
 use Rattle.workload_text.specs.declared.ClientScript.{ClientScript}
-use Rattle.client_core.specs.declared.Outcome.{Outcome}
-use Rattle.client_core.specs.Clients.{ClientState}
-use Rattle.client_core.specs.Legal.{entries_by, IsLegal}
+use Rattle.client_core.specs.Clients.{Told}
+use Rattle.client_core.specs.Clients as clients
+use Rattle.client_core.specs.Legal.{Ground, entries_by, IsLegal}
 use Rattle.cluster_core.specs.declared.Event.{Event}
 use Rattle.cluster_core.specs.declared.Event.TheVariants as events
 use Rattle.cluster_core.specs.declared.StepFault.TheVariants.{NoMemory}
 use Rattle.cluster_core.specs.Elsewhere.{told_of, IsApart}
-use Rattle.cluster_core.specs.Jobs.{JobTold, job_told, started}
+use Rattle.cluster_core.specs.Jobs.{JobTold, job_told, started, is_on}
 use Rattle.cluster_core.specs.State.{State, on_side, opening}
 use Rattle.cluster_core.specs.Step.{Turn, Run}
 use Rattle.cluster_core.specs.Sound.{IsOrdered, other_side}
 use Rattle.workload_text.specs.declared.CommandKind.{CommandKind}
 use Rattle.workload_text.specs.Kinds.{kind_of}
+use Rattle.report_text.specs.declared.EventAnswer.{EventAnswer}
+use Rattle.report_text.specs.declared.EventAnswer.TheVariants.{Step, Drained, TurnsSpent}
 use Rattle.report_text.specs.declared.EventLine.{EventLine}
 use Rattle.report_text.specs.declared.RunReport.{RunReport}
 use Rattle.report_text.specs.declared.Report.{Report}
@@ -40,22 +43,33 @@ use Rattle.fb_cli.specs.declared.fault.Fault.{Fault}
 abbrev pub event_of : ScheduleLine → Event
 event_of (lines.Begin client) = events.Begin client
 event_of (lines.Commit client) = events.Commit client
+event_of (lines.Tick n) = events.Tick n
 event_of line = events.Command
 
 -- the kind of the operator's next command in this state, where one is left
 abbrev pub next_kind : Workload → State → Option CommandKind
 next_kind workload state = option_map kind_of (slice_get workload.operator state.place)
 
--- the command that a schedule's line makes a step of; a client's line makes none
+-- the command that a schedule's line makes a step of; a client's line and a tick make none
 abbrev pub command_of : Workload → State → ScheduleLine → Option CommandKind
 command_of workload state (lines.Begin client) = None
 command_of workload state (lines.Commit client) = None
+command_of workload state (lines.Tick n) = None
 command_of workload state line = next_kind workload state
 
--- The turns of the machine that an event line tells: one, of its event, with its answer.
+-- a line with its command and its answer
+abbrev pub line_told : ScheduleLine → Option CommandKind → EventAnswer → EventLine
+line_told line command answer = record { line = line; command = command; reply = answer }
+
+-- The turns of the machine that an answer tells: one, of the line's event. No drain is played yet.
+abbrev pub TurnsTold : ScheduleLine → EventAnswer → List Turn → Type 0
+TurnsTold line (Step answer) turns = turns ≡ record { event = event_of line; answer = answer } ∷ []
+TurnsTold line (Drained steps) turns = ⊥
+TurnsTold line (TurnsSpent spent) turns = ⊥
+
+-- the turns of the machine that an event line tells
 abbrev pub AreTurnsOf : EventLine → List Turn → Type 0
-AreTurnsOf told turns =
-    turns ≡ record { event = event_of told.line; answer = told.answer } ∷ []
+AreTurnsOf told turns = TurnsTold told.line told.reply turns
 
 -- An event line tells turns of the machine, for which there was memory, and the command that they
 -- were of.
@@ -67,7 +81,7 @@ pub record TellsTurns
   pub turns : List Turn
   pub told : AreTurnsOf line turns
   pub run : Run workload old turns new
-  pub memory : line.answer ≢ Err NoMemory
+  pub memory : line.reply ≢ Step (Err NoMemory)
   pub command : line.command ≡ command_of workload old line.line
 
 -- From old, the event lines tell a run of the machine that ends in new: each goes on from where the
@@ -91,21 +105,47 @@ pub record TellsRun (workload : Workload) (store : Store) (report : RunReport) :
   pub commands : report.commands ≡ []
   pub src : report.src ≡ final.src
   pub dst : report.dst ≡ final.dst
-  pub outcomes : report.outcomes ≡ map (λ (client : ClientState). client.outcomes) final.clients
+  pub outcomes : report.outcomes ≡ map clients.told_of final.clients
   pub jobs : report.jobs ≡ map job_told final.jobs
   pub end : report.end ≡ final.time
   pub stored : store.after ≡ final.files
 
+abbrev pub ranges_in : Option (List KeyRange) → List (List KeyRange)
+ranges_in None = []
+ranges_in (Some ranges) = ranges ∷ []
+
+-- the ranges that a report's job has, where it is of this side
+abbrev pub range_told : Side → JobTold → List (List KeyRange)
+range_told side job = if is_on side job.terms.side then ranges_in job.terms.ranges else []
+
+-- the ranges of the jobs of a side, as a report tells them
+abbrev pub ranges_told : Side → List JobTold → List (List KeyRange)
+ranges_told side jobs = flat_map (range_told side) jobs
+
+-- what the clients of a side are measured by: the workload's settings, the jobs that were to log
+-- there, and the history
+abbrev pub ground_told : Settings → Side → RunReport → Ground
+ground_told settings side report =
+    record {
+      block = settings.block;
+      pace = settings.pace;
+      tries = settings.tries;
+      logged = ranges_told side report.jobs;
+      history = on_side side report.src report.dst;
+    }
+
 -- The histories of a report are right: their entries stand in the order of their versions, and hold
 -- of each client exactly the transactions that it committed, each once, in order, with its version
--- and its writes.
+-- and its writes. Its reads are those of the history, and its faults have causes in it.
 pub record HasHistory (workload : Workload) (report : RunReport) : Type 0 where
   pub src : IsOrdered report.end report.src
   pub dst : IsOrdered report.end report.dst
-  pub clients : (place : ℕ) (script : ClientScript) (outcomes : List Outcome) →
+  pub clients : (place : ℕ) (script : ClientScript) (told : Told) →
       slice_get workload.clients place ≡ Some script →
-      slice_get report.outcomes place ≡ Some outcomes →
-      IsLegal (suc place) script.txns outcomes (on_side script.side report.src report.dst)
+      slice_get report.outcomes place ≡ Some told →
+      (told.script ≡ script)
+      × IsLegal (ground_told workload.settings script.side report) (suc place) script.txns
+      told.outcomes
       × (entries_by (suc place) (on_side (other_side script.side) report.src report.dst) ≡ [])
 
 -- what a job's container is a backup of, by the report: the history of this side's database, in

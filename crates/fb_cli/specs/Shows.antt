@@ -12,8 +12,10 @@ use Rattle.fb_cli.specs.Outside.{Stream, Store, IsLeft}
 use Rattle.fb_cli.specs.Replays.{Replays}
 use Rattle.fb_cli.specs.Restores.{Restores}
 use Rattle.fb_cli.specs.Describes.{Describes}
+use Rattle.fb_cli.specs.Expires.{Expires}
 use Rattle.fb_cli.specs.Lists.{Lists}
-use Rattle.fb_cli.specs.Requests.{Request, Replay, Restore, Describe, Listing, Later, Misused}
+use Rattle.fb_cli.specs.Requests.{Request, Replay, Restore, Describe, Expire, Listing, Later}
+use Rattle.fb_cli.specs.Requests.{Misused}
 
 -- ---- commands
 
@@ -36,6 +38,18 @@ pub record IsDescribe
     (report : Option Report)
     (fault : Option Fault) : Type 0 where
   pub describes : Describes container store report fault
+  pub unread : IsLeft source
+
+-- An expire; the source isn't read.
+pub record IsExpire
+    (container : Bytes)
+    (cutoff wanted : ℕ)
+    (force : Bool)
+    (source : Stream)
+    (store : Store)
+    (report : Option Report)
+    (fault : Option Fault) : Type 0 where
+  pub expires : Expires container cutoff wanted force store report fault
   pub unread : IsLeft source
 
 -- A list of containers; the source isn't read.
@@ -64,6 +78,8 @@ Does (Restore container version) source store report fault =
     IsRestore container version source store report fault
 Does (Describe container) source store report fault =
     IsDescribe container source store report fault
+Does (Expire container cutoff wanted force) source store report fault =
+    IsExpire container cutoff wanted force source store report fault
 Does Listing source store report fault = IsListing source store report fault
 Does Later source store report fault = IsTurnedAway (NotBuilt 0) source report fault
 Does Misused source store report fault = IsTurnedAway Usage source report fault

@@ -1,12 +1,14 @@
 ghost use Rattle.std.specs.Prelude.{◌≡◌, Some, ◌++◌, decimal, IfOk};
-ghost use Rattle.fb_cli.specs.Faults.{status_of, refusal_line, fault_of, last_fault};
+ghost use Rattle.fb_cli.specs.Faults.{status_of, refusal_line, fault_of, refusal_of_step, last_fault};
+ghost use Rattle.fb_cli.specs.Expires.{refusal_of_expire};
 ghost use Rattle.fb_cli.specs.Restores.{refusal_of};
 
-use cluster_core::{Answer, StepFault};
+use cluster_core::StepFault;
 use container_view::{FileFault, ViewFault};
+use expire_core::ExpireFault;
 use fb_bytes::{Blob, Text};
 use itoa::Buffer;
-use report_text::{EventLine, put_file_fault, put_number_or_none};
+use report_text::{EventLine, Reply, put_file_fault, put_number_or_none};
 use std::alloc::{AllocError, Global};
 use workload_text::TextKind;
 
@@ -29,6 +31,9 @@ pub enum Fault {
     NotRestorable { min: Option<u64>, max: Option<u64> },
     /// The bytes of this file aren't in their grammar, or its range overlaps another one's.
     Damaged { name: Text, fault: FileFault },
+    /// No version at or past the wanted one would stay in the container. The greatest that would is
+    /// `left`, where there is one.
+    CannotExpire { wanted: u64, left: Option<u64> },
     /// The last step would take a version past the greatest one; the version is the newest.
     VersionsSpent { version: u64 },
     /// The last step's entry has too many bytes for a job's log.
@@ -57,6 +62,7 @@ pub fn status_of(fault: &Option<Fault>) -> u8
         Some(Fault::NotRestorable { .. }) => 6,
         Some(Fault::Damaged { .. }) => 7,
         Some(Fault::VersionsSpent { .. }) => 10,
+        Some(Fault::CannotExpire { .. }) => 8,
         Some(Fault::NoMemory) => 12,
         Some(Fault::NoContainer) => 13,
         Some(Fault::Missing { .. }) => 14,
@@ -70,23 +76,30 @@ pub fn last_fault(lines: &[EventLine]) -> Option<Fault>
     ensures { result ≡ last_fault lines.now }
 {
     match lines.last() {
-        Some(line) => fault_of(&line.answer),
+        Some(line) => fault_of(&line.reply),
         None => None,
     }
 }
 
-// The refusal of a command whose last step was answered so.
-fn fault_of(answer: &Result<Answer, StepFault>) -> Option<Fault>
-    ensures { result ≡ fault_of answer.now }
+// The refusal of a command whose last event was answered so.
+fn fault_of(reply: &Reply) -> Option<Fault>
+    ensures { result ≡ fault_of reply.now }
 {
-    match answer {
-        Ok(_) => None,
-        Err(StepFault::VaultFault) => Some(Fault::VaultFault),
-        Err(StepFault::VersionsSpent { version }) => Some(Fault::VersionsSpent {
-            version: *version,
-        }),
-        Err(StepFault::LogTooLarge { bytes }) => Some(Fault::LogTooLarge { bytes: *bytes }),
-        Err(StepFault::NoMemory) => Some(Fault::NoMemory),
+    match reply.fault() {
+        Some(fault) => Some(refusal_of_step(fault)),
+        None => None,
+    }
+}
+
+// The refusal of a command whose last step was refused so.
+fn refusal_of_step(fault: StepFault) -> Fault
+    ensures { result ≡ refusal_of_step fault }
+{
+    match fault {
+        StepFault::VaultFault => Fault::VaultFault,
+        StepFault::VersionsSpent { version } => Fault::VersionsSpent { version },
+        StepFault::LogTooLarge { bytes } => Fault::LogTooLarge { bytes },
+        StepFault::NoMemory => Fault::NoMemory,
     }
 }
 
@@ -101,6 +114,16 @@ pub fn refusal_of(fault: ViewFault) -> Fault
         ViewFault::Missing { name } => Fault::Missing { name },
         ViewFault::VaultFault => Fault::VaultFault,
         ViewFault::NoMemory => Fault::NoMemory,
+    }
+}
+
+/// The refusal by what an expire was refused for.
+pub fn refusal_of_expire(fault: ExpireFault) -> Fault
+    ensures { result ≡ refusal_of_expire fault }
+{
+    match fault {
+        ExpireFault::View { fault } => refusal_of(fault),
+        ExpireFault::CannotExpire { wanted, left } => Fault::CannotExpire { wanted, left },
     }
 }
 
@@ -121,6 +144,7 @@ pub fn push_refusal(alloc: Global, out: &mut Blob, fault: &Option<Fault>) -> Res
         Some(Fault::LogTooLarge { bytes }) => {
             push_number(out, b"refused log-too-large ", *bytes, b"\n")
         }
+        Some(Fault::CannotExpire { wanted, left }) => push_cannot_expire(out, *wanted, *left),
         Some(Fault::NoContainer) => out.extend_from_slice(b"refused no-container\n"),
         Some(Fault::Missing { name }) => push_missing(out, name),
         Some(Fault::NotBuilt { line }) => push_number(out, b"refused not-built ", *line, b"\n"),
@@ -158,6 +182,18 @@ fn push_not_restorable(out: &mut Blob, min: Option<u64>, max: Option<u64>) -> Re
     put_number_or_none(out, min)?;
     out.extend_from_slice(b" ")?;
     put_number_or_none(out, max)?;
+    out.extend_from_slice(b"\n")?;
+    Ok(())
+}
+
+fn push_cannot_expire(out: &mut Blob, wanted: u64, left: Option<u64>) -> Result<(), AllocError>
+    ensures { IfOk result
+        (λ _. out.new ≡ out.old ++ refusal_line (Some (Fault.CannotExpire wanted left))) }
+{
+    out.extend_from_slice(b"refused cannot-expire ")?;
+    put_number_or_none(out, Some(wanted))?;
+    out.extend_from_slice(b" ")?;
+    put_number_or_none(out, left)?;
     out.extend_from_slice(b"\n")?;
     Ok(())
 }

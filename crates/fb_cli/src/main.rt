@@ -3,6 +3,7 @@
 #![tactic(auto)]
 
 mod describe;
+mod expire;
 mod fault;
 mod later;
 mod list;

@@ -6,7 +6,7 @@ ghost use Rattle.fb_cli.specs.Causes.{RoseInEach};
 ghost use Rattle.fb_cli.specs.Faults.{status_of, fault_of, last_fault};
 ghost use Rattle.fb_cli.specs.Fronts.{PlaysFront, LeavesFront};
 ghost use Rattle.fb_cli.specs.Outside.{stream_change, store_change};
-ghost use Rattle.fb_cli.specs.Runs.{event_of, command_of, next_kind, schedule_of, TellsTurns, Tells, IsRunReport, fault_in};
+ghost use Rattle.fb_cli.specs.Runs.{event_of, command_of, next_kind, line_told, schedule_of, TellsTurns, Tells, IsRunReport, fault_in};
 ghost use Rattle.fb_cli.specs.Replays.{IsPlayed, Replays, OwesStore, ReadsText};
 
 use crate::fault::{Fault, last_fault};
@@ -14,7 +14,7 @@ use crate::later::{first_later, is_played};
 use cluster_core::{Answer, Event, StepFault, World, faithful_law};
 use fb_bytes::Seq;
 use fb_outside::{ReadFault, Source, Vault, read_all};
-use report_text::{EventLine, Report, RunReport};
+use report_text::{EventAnswer, EventLine, Reply, Report, RunReport};
 use std::alloc::{AllocError, Global};
 use workload_text::{
     CommandKind, MOST_BYTES, ScheduleLine, TextFault, TextKind, Workload, read_workload,
@@ -157,21 +157,42 @@ fn make_steps<V: Vault>(
 {
     let mut lines = Seq::from_vec(Vec::with_capacity(alloc, schedule.len())?);
     for line in schedule {
-        let event_line = make_step(world, *line)?;
+        let told = make_step(world, *line)?;
+        let event_line = keep_line(alloc, *line, told)?;
         lines.push(event_line)?;
     }
     Ok(lines)
 }
 
-// Makes the step of one line of a schedule.
-fn make_step<V: Vault>(world: &mut World<V>, line: ScheduleLine) -> Result<EventLine, AllocError>
+// A line of a schedule with its command and its answer.
+fn keep_line(
+    alloc: Global,
+    line: ScheduleLine,
+    told: (Option<CommandKind>, EventAnswer),
+) -> Result<EventLine, AllocError>
+    ensures { IfOk result (λ kept. kept ≡ line_told line told.0 told.1) }
+{
+    let (command, answer) = told;
+    let reply = Reply::new(alloc, answer)?;
+    Ok(EventLine {
+        line,
+        command,
+        reply,
+    })
+}
+
+// Makes the step of one line of a schedule. With what it was answered comes its command.
+fn make_step<V: Vault>(
+    world: &mut World<V>,
+    line: ScheduleLine,
+) -> Result<(Option<CommandKind>, EventAnswer), AllocError>
     ensures step { IfOk result
-        (λ told. TellsTurns world.old.workload world.old.state told world.new.state) }
-    ensures line { IfOk result (λ told. told.line ≡ line) }
+        (λ told. TellsTurns world.old.workload world.old.state (line_told line told.0 told.1)
+        world.new.state) }
     ensures workload { world.new.workload ≡ world.old.workload }
     ensures faults { IfOk result
         (λ told. Counts world.old.faults world.new.faults
-        (fault_of told.answer ≡ Some Fault.VaultFault)) }
+        (fault_of told.1 ≡ Some Fault.VaultFault)) }
     ensures starved { OnErr result (world.new.state ≡ world.old.state) }
     ensures later { world.old.faults ≤ world.new.faults }
 {
@@ -180,11 +201,7 @@ fn make_step<V: Vault>(world: &mut World<V>, line: ScheduleLine) -> Result<Event
     if is_starved(&answer) {
         return Err(AllocError);
     }
-    Ok(EventLine {
-        line,
-        command,
-        answer,
-    })
+    Ok((command, EventAnswer::Step(answer)))
 }
 
 // What the step of a schedule's line is answered.
@@ -210,7 +227,9 @@ fn command_of<V: Vault>(world: &World<V>, line: ScheduleLine) -> Option<CommandK
     ensures { result ≡ command_of world.now.workload world.now.state line }
 {
     match line {
-        ScheduleLine::Begin { .. } | ScheduleLine::Commit { .. } => None,
+        ScheduleLine::Begin { .. } | ScheduleLine::Commit { .. } | ScheduleLine::Tick { .. } => {
+            None
+        }
         _ => next_kind(world),
     }
 }
@@ -232,6 +251,7 @@ fn event_of(line: ScheduleLine) -> Event
     match line {
         ScheduleLine::Begin { client } => Event::Begin { client },
         ScheduleLine::Commit { client } => Event::Commit { client },
+        ScheduleLine::Tick { n } => Event::Tick { n },
         _ => Event::Command,
     }
 }

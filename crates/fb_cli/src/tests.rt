@@ -1,11 +1,15 @@
 //! Calls of the program over files in memory: each row is one file store and the calls over it.
 
+mod clients;
 mod damages;
+mod expires;
 mod replays;
 mod restores;
 mod words;
 
+use crate::replay::Ended;
 use crate::top::top;
+use cluster_core::{OpenFault, Parts, StepFault, World};
 use fb_bytes::{Blob, Text, is_same};
 use fb_outside::{File, Files, MemSink, MemSource, MemVault};
 use std::alloc::{AllocError, Global};
@@ -154,6 +158,7 @@ fn each_text_is_played_as_its_row_says(rt: HostRuntime) -> Result<(), Fail> {
     );
     assert_eq!(rt; good(rt.alloc(), replays::REFUSED)?, replays::REFUSED.len());
     assert_eq!(rt; good(rt.alloc(), replays::ENDINGS)?, replays::ENDINGS.len());
+    assert_eq!(rt; good(rt.alloc(), clients::CLIENTS)?, clients::CLIENTS.len());
     Ok(())
 }
 
@@ -180,10 +185,29 @@ fn each_container_is_read_as_its_row_says(rt: HostRuntime) -> Result<(), Fail> {
 }
 
 #[test]
+fn each_container_is_expired_as_its_row_says(rt: HostRuntime) -> Result<(), Fail> {
+    assert_eq!(rt; good(rt.alloc(), expires::EXPIRES)?, expires::EXPIRES.len());
+    Ok(())
+}
+
+#[test]
 fn each_list_of_words_is_answered_as_its_row_says(rt: HostRuntime) -> Result<(), Fail> {
     assert_eq!(rt; good(rt.alloc(), words::MISUSED)?, words::MISUSED.len());
     assert_eq!(rt; good(rt.alloc(), words::LATER)?, words::LATER.len());
     assert_eq!(rt; good(rt.alloc(), words::BRIEF)?, words::BRIEF.len());
     assert_eq!(rt; good(rt.alloc(), words::LISTS)?, words::LISTS.len());
     Ok(())
+}
+
+fn crosses<T: Send + Sync>() {}
+
+/// Threads may hand on and share the world, with its clients, jobs and databases, and what a call
+/// gives.
+#[test]
+fn types_cross_threads() {
+    crosses::<World<MemVault>>();
+    crosses::<OpenFault<MemVault>>();
+    crosses::<Parts<MemVault>>();
+    crosses::<StepFault>();
+    crosses::<Ended<MemVault>>();
 }

@@ -7,6 +7,7 @@ ghost use Rattle.fb_cli.specs.Requests.{request_of, is_brief};
 ghost use Rattle.fb_cli.specs.Shows.{Does, Shows, shown, report_part};
 
 use crate::describe::describe_words;
+use crate::expire::expire_words;
 use crate::fault::{Fault, push_refusal, status_of};
 use crate::list::list_words;
 use crate::replay::{Ended, refused, replay};
@@ -91,6 +92,12 @@ fn command<S: Source, V: Vault>(
         Asked::Replay { brief: _ } => replay(alloc, source, vault),
         Asked::Restore { container, version } => restore_words(alloc, vault, container, version),
         Asked::Describe { container } => describe_words(alloc, vault, container),
+        Asked::Expire {
+            container,
+            cutoff,
+            wanted,
+            force,
+        } => expire_words(alloc, vault, container, cutoff, wanted, force),
         Asked::List => list_words(alloc, vault),
         Asked::Later => refused(Fault::NotBuilt { line: 0 }, vault),
         Asked::Misused => refused(Fault::Usage, vault),

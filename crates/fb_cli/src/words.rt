@@ -20,9 +20,22 @@ const MOST_OF_ALL: u64 = 200_000;
 
 /// What words ask for.
 pub enum Asked<'a> {
-    Replay { brief: bool },
-    Restore { container: &'a Text, version: u64 },
-    Describe { container: &'a Text },
+    Replay {
+        brief: bool,
+    },
+    Restore {
+        container: &'a Text,
+        version: u64,
+    },
+    Describe {
+        container: &'a Text,
+    },
+    Expire {
+        container: &'a Text,
+        cutoff: u64,
+        wanted: u64,
+        force: bool,
+    },
     List,
     /// A command in its form that isn't built yet.
     Later,
@@ -146,7 +159,7 @@ fn restore_of(words: &[Text]) -> Asked<'_>
 }
 
 // expire CONTAINER CUTOFF [--restorable-after=N] [--force]
-fn expire_of<'a>(words: &[Text]) -> Asked<'a>
+fn expire_of(words: &[Text]) -> Asked<'_>
     ensures { spec.expire_of (positionals words.now) (options words.now) ≡ request_in result }
 {
     let Some((container, rest)) = next_positional(words) else {
@@ -158,7 +171,21 @@ fn expire_of<'a>(words: &[Text]) -> Asked<'a>
     let None = next_positional(rest) else {
         return Asked::Misused;
     };
-    later_if(is_container_name(container.as_bytes()) && is_number(cutoff) && are_of_expire(words))
+    if !is_container_name(container.as_bytes()) {
+        return Asked::Misused;
+    }
+    let Some(cutoff) = read_property(cutoff.as_bytes()) else {
+        return Asked::Misused;
+    };
+    match expire_terms(words) {
+        Some((wanted, force)) => Asked::Expire {
+            container,
+            cutoff,
+            wanted: wanted.unwrap_or(cutoff),
+            force,
+        },
+        None => Asked::Misused,
+    }
 }
 
 // list
@@ -223,20 +250,55 @@ fn has_flag(flag: &[u8], words: &[Text]) -> bool
     flag_in(flag, words).is_some()
 }
 
-// The options are those of `expire`, each once at most.
-fn are_of_expire(words: &[Text]) -> bool
-    ensures { result ≡ spec.are_of_expire (options words.now) }
+// The wanted version, if an option says one, and whether the expire is forced; none where the
+// options aren't those of `expire`, each once at most.
+fn expire_terms(words: &[Text]) -> Option<(Option<u64>, bool)>
+    ensures { result ≡ spec.expire_terms (options words.now) }
 {
     let Some((one, rest)) = next_option(words) else {
-        return true;
+        return Some((None, false));
     };
     let Some((other, rest)) = next_option(rest) else {
-        return is_force(one) || is_wanted(one);
+        return one_term(one);
     };
-    let None = next_option(rest) else {
-        return false;
-    };
-    (is_force(one) && is_wanted(other)) || (is_wanted(one) && is_force(other))
+    match next_option(rest) {
+        Some(_) => None,
+        None => two_terms(one, other),
+    }
+}
+
+// The terms by two options.
+fn two_terms(one: &Text, other: &Text) -> Option<(Option<u64>, bool)>
+    ensures { result ≡ spec.expire_terms (one.now ∷ other.now ∷ []) }
+{
+    if is_force(one) {
+        terms_with(true, other)
+    } else if is_force(other) {
+        terms_with(true, one)
+    } else {
+        None
+    }
+}
+
+// The terms by one option.
+fn one_term(option: &Text) -> Option<(Option<u64>, bool)>
+    ensures { result ≡ spec.expire_terms (option.now ∷ []) }
+{
+    if is_force(option) {
+        Some((None, true))
+    } else {
+        terms_with(false, option)
+    }
+}
+
+// The terms by the option that says the wanted version.
+fn terms_with(force: bool, option: &Text) -> Option<(Option<u64>, bool)>
+    ensures { result ≡ spec.terms_with force (spec.wanted_in option.now) }
+{
+    match wanted_in(option) {
+        Some(wanted) => Some((Some(wanted), force)),
+        None => None,
+    }
 }
 
 fn is_force(option: &Text) -> bool
@@ -245,12 +307,12 @@ fn is_force(option: &Text) -> bool
     is_same(option.as_bytes(), b"--force")
 }
 
-fn is_wanted(option: &Text) -> bool
-    ensures { result ≡ spec.is_wanted option.now }
+fn wanted_in(option: &Text) -> Option<u64>
+    ensures { result ≡ spec.wanted_in option.now }
 {
     match after(b"--restorable-after=", option.as_bytes()) {
-        Some(number) => read_property(number).is_some(),
-        None => false,
+        Some(number) => read_property(number),
+        None => None,
     }
 }
 

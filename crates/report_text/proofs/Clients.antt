@@ -1,30 +1,32 @@
 -- The lines of one client more.
 use Rattle.std.proofs.Common.{◌≡◌, ℕ, zero, suc, ◌+◌, List, [], ◌∷◌, ◌++◌, take, Some, slice_get, sym, ap, ◌∙◌, arith, add-one, add-zero, append_assoc, append-nil}
 use Rattle.std.specs.List.{flat_map}
-use Rattle.client_core.specs.declared.Outcome.{Outcome}
-use Rattle.report_text.specs.Outcomes.{client_line, client_lines}
+use Rattle.fb_bytes.specs.Bytes.{Bytes}
+use Rattle.client_core.specs.Clients.{Told}
+use Rattle.report_text.specs.Outcomes.{try_lines, client_lines}
 
-abbrev Tries : Type 0
-Tries = List Outcome
+-- the lines of a client of this number
+abbrev pub of_client : ℕ → Told → Bytes
+of_client n told = flat_map (try_lines n told.script.txns) told.outcomes
 
-one_more : (n i : ℕ) (all : List Tries) (tries : Tries) → slice_get all i ≡ Some tries → client_lines n (take (suc i) all) ≡ client_lines n (take i all) ++ flat_map (client_line (n + i)) tries
-one_more n i [] tries h = cc
-one_more n zero (first ∷ all) tries h =
-    let e : first ≡ tries = cc in
-    append-nil (flat_map (client_line n) first) ∙ ap (flat_map (client_line n)) e ∙ ap (λ k. flat_map (client_line k) tries) (sym (add-zero n))
-one_more n (suc i) (first ∷ all) tries h =
+one_more : (n i : ℕ) (all : List Told) (told : Told) → slice_get all i ≡ Some told → client_lines n (take (suc i) all) ≡ client_lines n (take i all) ++ of_client (n + i) told
+one_more n i [] told h = cc
+one_more n zero (first ∷ all) told h =
+    let e : first ≡ told = cc in
+    append-nil (of_client n first) ∙ ap (of_client n) e ∙ ap (λ k. of_client k told) (sym (add-zero n))
+one_more n (suc i) (first ∷ all) told h =
     let k : n + 1 + i ≡ n + suc i = omega arith in
-    ap (λ rest. flat_map (client_line n) first ++ rest) (one_more (n + 1) i all tries h)
-    ∙ sym (append_assoc (flat_map (client_line n) first) (client_lines (n + 1) (take i all)) (flat_map (client_line (n + 1 + i)) tries))
-    ∙ ap (λ c. flat_map (client_line n) first ++ client_lines (n + 1) (take i all) ++ flat_map (client_line c) tries) k
+    ap (λ rest. of_client n first ++ rest) (one_more (n + 1) i all told h)
+    ∙ sym (append_assoc (of_client n first) (client_lines (n + 1) (take i all)) (of_client (n + 1 + i) told))
+    ∙ ap (λ c. of_client n first ++ client_lines (n + 1) (take i all) ++ of_client c told) k
 
-pub one_more_client : (before after from : List ℕ) (i : ℕ) (all : List Tries) (tries : Tries) → slice_get all i ≡ Some tries
-    → before ≡ from ++ client_lines 1 (take i all) → after ≡ before ++ flat_map (client_line (i + 1)) tries → after ≡ from ++ client_lines 1 (take (i + 1) all)
-one_more_client before after from i all tries h b a =
+pub one_more_client : (before after from : Bytes) (i : ℕ) (all : List Told) (told : Told) → slice_get all i ≡ Some told
+    → before ≡ from ++ client_lines 1 (take i all) → after ≡ before ++ of_client (i + 1) told → after ≡ from ++ client_lines 1 (take (i + 1) all)
+one_more_client before after from i all told h b a =
     let k : i + 1 ≡ 1 + i = omega arith in
     a
-    ∙ ap (λ t. t ++ flat_map (client_line (i + 1)) tries) b
-    ∙ append_assoc from (client_lines 1 (take i all)) (flat_map (client_line (i + 1)) tries)
-    ∙ ap (λ c. from ++ (client_lines 1 (take i all) ++ flat_map (client_line c) tries)) k
-    ∙ ap (λ t. from ++ t) (sym (one_more 1 i all tries h))
+    ∙ ap (λ t. t ++ of_client (i + 1) told) b
+    ∙ append_assoc from (client_lines 1 (take i all)) (of_client (i + 1) told)
+    ∙ ap (λ c. from ++ (client_lines 1 (take i all) ++ of_client c told)) k
+    ∙ ap (λ t. from ++ t) (sym (one_more 1 i all told h))
     ∙ ap (λ c. from ++ client_lines 1 (take c all)) (sym (add-one i))

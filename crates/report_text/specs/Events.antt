@@ -23,6 +23,9 @@ use Rattle.cluster_core.specs.declared.StepFault.TheVariants.{LogTooLarge}
 use Rattle.cluster_core.specs.declared.StepFault.TheVariants.{NoMemory}
 use Rattle.workload_text.specs.declared.CommandKind.{CommandKind}
 use Rattle.workload_text.specs.Kinds.{command_word}
+use Rattle.report_text.specs.declared.event_answer.EventAnswer.{EventAnswer}
+use Rattle.report_text.specs.declared.event_answer.EventAnswer.TheVariants.{Step, Drained}
+use Rattle.report_text.specs.declared.event_answer.EventAnswer.TheVariants.{TurnsSpent}
 use Rattle.report_text.specs.declared.report.EventLine.{EventLine}
 use Rattle.report_text.specs.Lines.{line}
 use Rattle.report_text.specs.Outcomes.{end_words}
@@ -115,11 +118,24 @@ step_fault_words (LogTooLarge bytes) = codes "log-too-large" ∷ decimal bytes �
 step_fault_words NoMemory = codes "no-memory" ∷ []
 
 -- the answer, or the fault of a step that was refused
-abbrev pub reply_words : Result Answer StepFault → List Bytes
-reply_words (Ok answer) = answer_words answer
-reply_words (Err fault) = step_fault_words fault
+abbrev pub step_words : Result Answer StepFault → List Bytes
+step_words (Ok answer) = answer_words answer
+step_words (Err fault) = step_fault_words fault
+
+-- what an event was answered
+abbrev pub reply_words : EventAnswer → List Bytes
+reply_words (Step answer) = step_words answer
+reply_words (Drained steps) = codes "steps" ∷ decimal steps ∷ []
+reply_words (TurnsSpent turns) = codes "turns-spent" ∷ decimal turns ∷ []
+
+-- why a step was refused, where it was
+abbrev pub fault_in : EventAnswer → Option StepFault
+fault_in (Step (Ok answer)) = None
+fault_in (Step (Err fault)) = Some fault
+fault_in (Drained steps) = None
+fault_in (TurnsSpent turns) = None
 
 -- an event, and behind an arrow what it was answered
 abbrev pub event_line : EventLine → Bytes
 event_line event =
-    line (event_words event.line event.command ++ codes "->" ∷ reply_words event.answer)
+    line (event_words event.line event.command ++ codes "->" ∷ reply_words event.reply)

@@ -3,10 +3,10 @@ use Rattle.std.specs.Prelude.{ℕ, Bool, List, [], ◌∷◌, ◌++◌, codes, d
 use Rattle.std.specs.List.{flat_map}
 use Rattle.fb_bytes.specs.Bytes.{Bytes}
 use Rattle.mutations.specs.declared.Entry.{Entry}
-use Rattle.client_core.specs.declared.Outcome.{Outcome}
+use Rattle.client_core.specs.Clients.{Told}
 use Rattle.report_text.specs.declared.report.Report.{Report}
 use Rattle.report_text.specs.declared.report.Report.TheVariants.{Run, Restored, Described}
-use Rattle.report_text.specs.declared.report.Report.TheVariants.{Listed}
+use Rattle.report_text.specs.declared.report.Report.TheVariants.{Expired, Listed}
 use Rattle.report_text.specs.declared.report.RunReport.{RunReport}
 use Rattle.report_text.specs.Lines.{line}
 use Rattle.report_text.specs.Events.{event_line}
@@ -18,7 +18,7 @@ use Rattle.report_text.specs.Restores.{restored_text}
 use Rattle.report_text.specs.Descriptions.{container_line, described_text}
 
 -- what a brief report leaves out: the clients' tries and the entries of both databases
-abbrev pub details : List (List Outcome) → List Entry → List Entry → Bytes
+abbrev pub details : List Told → List Entry → List Entry → Bytes
 details outcomes src dst =
     client_lines 1 outcomes ++ flat_map (entry_lines (codes "src")) src
     ++ flat_map (entry_lines (codes "dst")) dst
@@ -38,4 +38,5 @@ abbrev pub report_text : Bool → Report → Bytes
 report_text brief (Run run) = run_text brief run
 report_text brief (Restored told) = restored_text told
 report_text brief (Described told) = described_text told
+report_text brief (Expired deleted) = line (codes "deleted" ∷ decimal deleted ∷ [])
 report_text brief (Listed names) = flat_map container_line names

@@ -1,2 +1,3 @@
 -- Definitions that only private clauses cite.
 pub mod Fields
+pub mod Replies

@@ -8,7 +8,7 @@ ghost use Rattle.report_text.specs.Faults.{file_fault_words};
 ghost use Rattle.report_text.specs.inner.Fields.{field_words};
 ghost use Rattle.report_text.specs.Lines.{behind};
 ghost use Rattle.report_text.specs.Jobs as spec;
-ghost use Rattle.report_text.specs.Events.{refusal_words, status_word, answer_words, step_fault_words, reply_words};
+ghost use Rattle.report_text.specs.Events.{refusal_words, status_word, answer_words, step_fault_words, step_words};
 
 use crate::described::put_number_or_none;
 use crate::faults::put_file_fault;
@@ -23,12 +23,12 @@ use std::alloc::{AllocError, Global};
 use task_kinds::Kind;
 
 /// What a step was answered, or why it was refused.
-pub fn put_reply(
+pub fn put_step(
     alloc: Global,
     out: &mut Blob,
     answer: &Result<Answer, StepFault>,
 ) -> Result<(), AllocError>
-    ensures { OnOk result (out.new ≡ out.old ++ behind (reply_words answer.now)) }
+    ensures { OnOk result (out.new ≡ out.old ++ behind (step_words answer.now)) }
 {
     match answer {
         Ok(answer) => put_answer(alloc, out, answer),
@@ -36,14 +36,14 @@ pub fn put_reply(
     }
 }
 
-/// The reply to a client's step, where it is no more than the end of a line.
-pub fn short_reply(answer: &Result<Answer, StepFault>) -> Option<Tail>
-    ensures words { IfSome result (λ tail. tail ≡ behind (reply_words answer.now)) }
-    ensures len { IfSome result (λ tail. length tail ≤ 41) }
+/// The answer to a client's step, where it is no more than the end of a line.
+pub fn short_step(answer: &Result<Answer, StepFault>) -> Option<Tail>
+    ensures words { IfSome result (λ tail. tail ≡ behind (step_words answer.now)) }
+    ensures len { IfSome result (λ tail. length tail ≤ 67) }
 {
     match answer {
         Ok(Answer::Read { version }) => Some(Tail::last(b" read ", *version)),
-        Ok(Answer::Outcome(outcome)) => Some(end_of(outcome.end)),
+        Ok(Answer::Outcome(outcome)) => Some(end_of(&outcome.end)),
         _ => None,
     }
 }
@@ -55,7 +55,7 @@ pub fn put_answer(alloc: Global, out: &mut Blob, answer: &Answer) -> Result<(), 
     match answer {
         Answer::Nothing => put(out, b" none\n"),
         Answer::Read { version } => put_last(out, b" read ", *version),
-        Answer::Outcome(outcome) => put_end(out, outcome.end),
+        Answer::Outcome(outcome) => put_end(out, &outcome.end),
         Answer::Version { version } => put_last(out, b" version ", *version),
         Answer::NoTask => put(out, b" no-task\n"),
         Answer::Paused => put(out, b" paused\n"),

@@ -6,11 +6,9 @@ ghost use Rattle.report_text.specs.Lines.{behind, line};
 ghost use Rattle.workload_text.specs.Kinds.{command_word};
 ghost use Rattle.report_text.specs.Events.{command_words, reply_words, event_line};
 
-use crate::EventLine;
-use crate::answers::{put_reply, short_reply};
 use crate::tail::Tail;
 use crate::words::{put, put_field};
-use cluster_core::{Answer, StepFault};
+use crate::{EventLine, Reply};
 use fb_bytes::Blob;
 use std::alloc::{AllocError, Global};
 use workload_text::{CommandKind, ScheduleLine};
@@ -29,19 +27,19 @@ fn put_event(alloc: Global, out: &mut Blob, event: &EventLine) -> Result<(), All
     ensures { OnOk result (out.new ≡ out.old ++ event_line event.now) }
 {
     match event.line {
-        ScheduleLine::Begin { client } => put_turn(alloc, out, b"begin ", client, &event.answer),
-        ScheduleLine::Commit { client } => put_turn(alloc, out, b"commit ", client, &event.answer),
-        ScheduleLine::Tick { n } => put_numbered(alloc, out, b"tick ", n, &event.answer),
-        ScheduleLine::Claim { agent, pick } => put_claim(alloc, out, agent, pick, &event.answer),
-        ScheduleLine::Extend { agent } => put_turn(alloc, out, b"extend ", agent, &event.answer),
-        ScheduleLine::Take { agent } => put_turn(alloc, out, b"take ", agent, &event.answer),
-        ScheduleLine::Place { agent } => put_turn(alloc, out, b"place ", agent, &event.answer),
-        ScheduleLine::Close { agent } => put_turn(alloc, out, b"close ", agent, &event.answer),
-        ScheduleLine::Die { agent } => put_turn(alloc, out, b"die ", agent, &event.answer),
-        ScheduleLine::Op => put_step(alloc, out, event.command, &event.answer),
+        ScheduleLine::Begin { client } => put_turn(alloc, out, b"begin ", client, &event.reply),
+        ScheduleLine::Commit { client } => put_turn(alloc, out, b"commit ", client, &event.reply),
+        ScheduleLine::Tick { n } => put_numbered(alloc, out, b"tick ", n, &event.reply),
+        ScheduleLine::Claim { agent, pick } => put_claim(alloc, out, agent, pick, &event.reply),
+        ScheduleLine::Extend { agent } => put_turn(alloc, out, b"extend ", agent, &event.reply),
+        ScheduleLine::Take { agent } => put_turn(alloc, out, b"take ", agent, &event.reply),
+        ScheduleLine::Place { agent } => put_turn(alloc, out, b"place ", agent, &event.reply),
+        ScheduleLine::Close { agent } => put_turn(alloc, out, b"close ", agent, &event.reply),
+        ScheduleLine::Die { agent } => put_turn(alloc, out, b"die ", agent, &event.reply),
+        ScheduleLine::Op => put_step(alloc, out, event.command, &event.reply),
         ScheduleLine::Drain => {
             put(out, b"drain")?;
-            put_answered(alloc, out, &event.answer)
+            put_answered(alloc, out, &event.reply)
         }
     }
 }
@@ -51,17 +49,17 @@ fn put_turn(
     out: &mut Blob,
     word: &[u8],
     number: u32,
-    answer: &Result<Answer, StepFault>,
+    reply: &Reply,
 ) -> Result<(), AllocError>
     requires { length word.now ≤ 20 }
     ensures { OnOk result (out.new ≡ out.old ++ word.now ++ decimal number
-        ++ behind (codes "->" ∷ reply_words answer.now)) }
+        ++ behind (codes "->" ∷ reply_words reply.now)) }
 {
-    match short_reply(answer) {
+    match reply.short() {
         Some(tail) => put_short(out, word, number, tail),
         None => {
             put_field(out, word, number)?;
-            put_answered(alloc, out, answer)
+            put_answered(alloc, out, reply)
         }
     }
 }
@@ -71,13 +69,13 @@ fn put_numbered(
     out: &mut Blob,
     word: &[u8],
     number: u64,
-    answer: &Result<Answer, StepFault>,
+    reply: &Reply,
 ) -> Result<(), AllocError>
     ensures { OnOk result (out.new ≡ out.old ++ word.now ++ decimal number
-        ++ behind (codes "->" ∷ reply_words answer.now)) }
+        ++ behind (codes "->" ∷ reply_words reply.now)) }
 {
     put_field(out, word, number)?;
-    put_answered(alloc, out, answer)
+    put_answered(alloc, out, reply)
 }
 
 fn put_claim(
@@ -85,22 +83,22 @@ fn put_claim(
     out: &mut Blob,
     agent: u32,
     pick: u64,
-    answer: &Result<Answer, StepFault>,
+    reply: &Reply,
 ) -> Result<(), AllocError>
     ensures { OnOk result
         (out.new ≡ out.old
         ++ line (codes "claim" ∷ decimal agent ∷ decimal pick ∷ codes "->"
-        ∷ reply_words answer.now)) }
+        ∷ reply_words reply.now)) }
 {
     put_field(out, b"claim ", agent)?;
     put_field(out, b" ", pick)?;
-    put_answered(alloc, out, answer)
+    put_answered(alloc, out, reply)
 }
 
 /// The line of a client's step, from its word on.
 fn put_short(out: &mut Blob, word: &[u8], client: u32, reply: Tail) -> Result<(), AllocError>
     requires word { length word.now ≤ 20 }
-    requires reply { length reply ≤ 41 }
+    requires reply { length reply ≤ 67 }
     ensures { OnOk result
         (out.new ≡ out.old ++ word.now ++ decimal client ++ codes " ->" ++ reply) }
 {
@@ -115,16 +113,16 @@ fn put_step(
     alloc: Global,
     out: &mut Blob,
     command: Option<CommandKind>,
-    answer: &Result<Answer, StepFault>,
+    reply: &Reply,
 ) -> Result<(), AllocError>
     ensures { OnOk result
         (out.new ≡ out.old
-        ++ line (codes "op" ∷ (command_words command ++ codes "->" ∷ reply_words answer.now))) }
+        ++ line (codes "op" ∷ (command_words command ++ codes "->" ∷ reply_words reply.now))) }
 {
     put(out, b"op")?;
     match command {
-        Some(command) => put_command(alloc, out, command, answer),
-        None => put_answered(alloc, out, answer),
+        Some(command) => put_command(alloc, out, command, reply),
+        None => put_answered(alloc, out, reply),
     }
 }
 
@@ -132,23 +130,19 @@ fn put_command(
     alloc: Global,
     out: &mut Blob,
     command: CommandKind,
-    answer: &Result<Answer, StepFault>,
+    reply: &Reply,
 ) -> Result<(), AllocError>
     ensures { OnOk result
-        (out.new ≡ out.old ++ behind (command_word command ∷ codes "->" ∷ reply_words answer.now)) }
+        (out.new ≡ out.old ++ behind (command_word command ∷ codes "->" ∷ reply_words reply.now)) }
 {
     put(out, b" ")?;
     put(out, command.word().as_bytes())?;
-    put_answered(alloc, out, answer)
+    put_answered(alloc, out, reply)
 }
 
-fn put_answered(
-    alloc: Global,
-    out: &mut Blob,
-    answer: &Result<Answer, StepFault>,
-) -> Result<(), AllocError>
-    ensures { OnOk result (out.new ≡ out.old ++ behind (codes "->" ∷ reply_words answer.now)) }
+fn put_answered(alloc: Global, out: &mut Blob, reply: &Reply) -> Result<(), AllocError>
+    ensures { OnOk result (out.new ≡ out.old ++ behind (codes "->" ∷ reply_words reply.now)) }
 {
     put(out, b" ->")?;
-    put_reply(alloc, out, answer)
+    reply.put(alloc, out)
 }

@@ -25,6 +25,7 @@ pub fn report_bytes(alloc: Global, report: &Report, brief: bool) -> Result<Blob,
         Report::Run(run) => put_run(alloc, &mut out, run, brief)?,
         Report::Restored(told) => put_restored(alloc, &mut out, told)?,
         Report::Described(told) => put_described(&mut out, told)?,
+        Report::Expired { deleted } => put_last(&mut out, b"deleted ", *deleted)?,
         Report::Listed(names) => put_listed(&mut out, names.as_slice())?,
     }
     Ok(out)
@@ -52,7 +53,7 @@ pub fn put_details(
 ) -> Result<(), AllocError>
     ensures { OnOk result (out.new ≡ out.old ++ details outcomes.now src.now dst.now) }
 {
-    put_outcomes(out, outcomes)?;
+    put_outcomes(alloc, out, outcomes)?;
     put_entries(alloc, out, b"src", src.as_slice())?;
     put_entries(alloc, out, b"dst", dst.as_slice())
 }

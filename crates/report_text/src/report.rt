@@ -1,5 +1,6 @@
+use crate::Reply;
 use client_core::Outcomes;
-use cluster_core::{Answer, Jobs, StepFault};
+use cluster_core::{Answer, Jobs};
 use container_view::Description;
 use fb_bytes::{Names, Pairs, Seq, Text};
 use mutations::Entry;
@@ -11,7 +12,7 @@ pub struct EventLine {
     pub line: ScheduleLine,
     /// The command of an operator's step, where one was left.
     pub command: Option<CommandKind>,
-    pub answer: Result<Answer, StepFault>,
+    pub reply: Reply,
 }
 
 /// A command of the operator, and the last answer that its steps got.
@@ -58,6 +59,8 @@ pub enum Report {
     Run(RunReport),
     Restored(Restored),
     Described(Described),
+    /// How many files an expire deleted.
+    Expired { deleted: u64 },
     /// The containers of a store.
     Listed(Names),
 }

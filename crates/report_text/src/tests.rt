@@ -4,44 +4,66 @@ use crate::entries::{put_mutations, put_who};
 use crate::events::put_events;
 use crate::outcomes::put_end;
 use atomic_ops::Op;
-use client_core::End;
+use client_core::{End, Outcome};
 use cluster_core::{Answer, JobState, Refusal, StepFault};
-use database::CommitFault;
-use fb_bytes::Blob;
+use database::{CommitFault, Found};
+use fb_bytes::{Blob, Seq};
 use mutations::{Mutation, Who};
 use std::alloc::{AllocError, Global};
 use std::test::Fail;
 use task_kinds::Kind;
 use workload_text::{CommandKind, ScheduleLine};
 
+// A line with its answer, and with the command where it is the operator's.
+fn told(
+    alloc: Global,
+    line: ScheduleLine,
+    command: Option<CommandKind>,
+    answer: EventAnswer,
+) -> Result<EventLine, AllocError> {
+    let reply = Reply::new(alloc, answer)?;
+    Ok(EventLine {
+        line,
+        command,
+        reply,
+    })
+}
+
 // A line of the operator.
-fn operated(command: CommandKind, answer: Result<Answer, StepFault>) -> EventLine {
-    EventLine {
-        line: ScheduleLine::Op,
-        command: Some(command),
-        answer,
-    }
+fn operated(
+    alloc: Global,
+    command: CommandKind,
+    answer: Result<Answer, StepFault>,
+) -> Result<EventLine, AllocError> {
+    told(
+        alloc,
+        ScheduleLine::Op,
+        Some(command),
+        EventAnswer::Step(answer),
+    )
 }
 
 // Lines of the operator with answers of several kinds.
-fn answers() -> [EventLine; 7] {
-    [
-        operated(CommandKind::Open, Ok(Answer::Done)),
-        operated(CommandKind::Dump, Err(StepFault::VaultFault)),
+fn answers(alloc: Global) -> Result<[EventLine; 7], AllocError> {
+    let aborted = Some(JobState::Aborted);
+    let spent = StepFault::VersionsSpent { version: 7 };
+    Ok([
+        operated(alloc, CommandKind::Open, Ok(Answer::Done))?,
+        operated(alloc, CommandKind::Dump, Err(StepFault::VaultFault))?,
+        operated(alloc, CommandKind::Cut, Err(spent))?,
+        operated(alloc, CommandKind::Seal, Err(StepFault::NoMemory))?,
+        operated(alloc, CommandKind::Abort, Ok(Answer::Done))?,
         operated(
-            CommandKind::Cut,
-            Err(StepFault::VersionsSpent { version: 7 }),
-        ),
-        operated(CommandKind::Seal, Err(StepFault::NoMemory)),
-        operated(CommandKind::Abort, Ok(Answer::Done)),
-        operated(CommandKind::Status, Ok(Answer::State { state: None })),
-        operated(
+            alloc,
             CommandKind::Status,
-            Ok(Answer::State {
-                state: Some(JobState::Aborted),
-            }),
-        ),
-    ]
+            Ok(Answer::State { state: None }),
+        )?,
+        operated(
+            alloc,
+            CommandKind::Status,
+            Ok(Answer::State { state: aborted }),
+        )?,
+    ])
 }
 
 const ANSWERS: &[u8] = b"op open -> done\n\
@@ -54,41 +76,38 @@ const ANSWERS: &[u8] = b"op open -> done\n\
 
 #[test]
 fn operator_lines(rt: HostRuntime) -> Result<(), Fail> {
-    let events = answers();
+    let events = answers(rt.alloc())?;
     let mut out = Blob::new(rt.alloc());
     put_events(rt.alloc(), &mut out, &events)?;
     assert_eq!(rt; out.as_slice(), ANSWERS);
     Ok(())
 }
 
-// A line without a command.
-fn answered(line: ScheduleLine, answer: Answer) -> EventLine {
-    EventLine {
-        line,
-        command: None,
-        answer: Ok(answer),
-    }
+// A line of time, of a client or of an agent.
+fn answered(alloc: Global, line: ScheduleLine, answer: Answer) -> Result<EventLine, AllocError> {
+    told(alloc, line, None, EventAnswer::Step(Ok(answer)))
 }
 
 // Lines of time and of an agent.
-fn turns() -> [EventLine; 7] {
+fn turns(alloc: Global) -> Result<[EventLine; 7], AllocError> {
     let task = Answer::Task {
         uid: 3,
         kind: Kind::BackupRange,
         until: 99,
     };
-    [
-        answered(ScheduleLine::Tick { n: 5 }, Answer::Version { version: 15 }),
-        answered(ScheduleLine::Claim { agent: 1, pick: 7 }, task),
-        answered(
-            ScheduleLine::Extend { agent: 1 },
-            Answer::Until { until: 120 },
-        ),
-        answered(ScheduleLine::Take { agent: 1 }, Answer::Taken { ticket: 4 }),
-        answered(ScheduleLine::Place { agent: 1 }, Answer::Loaded),
-        answered(ScheduleLine::Close { agent: 1 }, Answer::Closed { uid: 3 }),
-        answered(ScheduleLine::Die { agent: 1 }, Answer::Dead),
-    ]
+    let ticked = Answer::Version { version: 15 };
+    let extended = Answer::Until { until: 120 };
+    let taken = Answer::Taken { ticket: 4 };
+    let closed = Answer::Closed { uid: 3 };
+    Ok([
+        answered(alloc, ScheduleLine::Tick { n: 5 }, ticked)?,
+        answered(alloc, ScheduleLine::Claim { agent: 1, pick: 7 }, task)?,
+        answered(alloc, ScheduleLine::Extend { agent: 1 }, extended)?,
+        answered(alloc, ScheduleLine::Take { agent: 1 }, taken)?,
+        answered(alloc, ScheduleLine::Place { agent: 1 }, Answer::Loaded)?,
+        answered(alloc, ScheduleLine::Close { agent: 1 }, closed)?,
+        answered(alloc, ScheduleLine::Die { agent: 1 }, Answer::Dead)?,
+    ])
 }
 
 const TURNS: &[u8] = b"tick 5 -> version 15\n\
@@ -102,7 +121,7 @@ const TURNS: &[u8] = b"tick 5 -> version 15\n\
 
 #[test]
 fn agents_lines_and_a_command(rt: HostRuntime) -> Result<(), Fail> {
-    let events = turns();
+    let events = turns(rt.alloc())?;
     let waits = CommandLine {
         command: CommandKind::Wait,
         answer: Answer::Going,
@@ -114,22 +133,64 @@ fn agents_lines_and_a_command(rt: HostRuntime) -> Result<(), Fail> {
     Ok(())
 }
 
+// What a try was answered that was committed, with so many reads of a key without a value.
+fn tried(alloc: Global, count: usize) -> Result<Answer, AllocError> {
+    let mut reads = Seq::new(alloc);
+    for _ in 0..count {
+        reads.push(Found::One(None))?;
+    }
+    Ok(Answer::Outcome(Outcome {
+        place: 1,
+        attempt: 1,
+        read: 0,
+        end: End::Commit { version: 20, reads },
+    }))
+}
+
+// Lines of a client and of drains: what stands in place, and what stands behind a pointer.
+fn short_and_long(alloc: Global) -> Result<[EventLine; 5], AllocError> {
+    let read = Answer::Read { version: 10 };
+    let drained = EventAnswer::Drained { steps: 50 };
+    let spent = EventAnswer::TurnsSpent { turns: 99 };
+    Ok([
+        answered(alloc, ScheduleLine::Begin { client: 1 }, read)?,
+        answered(alloc, ScheduleLine::Commit { client: 1 }, tried(alloc, 0)?)?,
+        answered(alloc, ScheduleLine::Commit { client: 2 }, tried(alloc, 1)?)?,
+        told(alloc, ScheduleLine::Drain, None, drained)?,
+        told(alloc, ScheduleLine::Drain, None, spent)?,
+    ])
+}
+
+const SHORT_AND_LONG: &[u8] = b"begin 1 -> read 10\n\
+      commit 1 -> commit 20\n\
+      commit 2 -> commit 20\n\
+      drain -> steps 50\n\
+      drain -> turns-spent 99\n";
+
+#[test]
+fn replies(rt: HostRuntime) -> Result<(), Fail> {
+    let events = short_and_long(rt.alloc())?;
+    let mut out = Blob::new(rt.alloc());
+    put_events(rt.alloc(), &mut out, &events)?;
+    assert_eq!(rt; out.as_slice(), SHORT_AND_LONG);
+    Ok(())
+}
+
 // The line of a dump that was refused.
-fn refused(refusal: Refusal) -> EventLine {
-    operated(CommandKind::Dump, Ok(Answer::Refused(refusal)))
+fn refused(alloc: Global, refusal: Refusal) -> Result<EventLine, AllocError> {
+    operated(alloc, CommandKind::Dump, Ok(Answer::Refused(refusal)))
 }
 
 // Dumps that are refused, each with a key or a version.
 fn refusals(alloc: Global) -> Result<[EventLine; 4], AllocError> {
     let outside = Blob::from_slice(alloc, b"k v")?;
     let again = Blob::from_slice(alloc, b"m")?;
+    let empty = Blob::new(alloc);
     Ok([
-        refused(Refusal::OutsideRanges { key: outside }),
-        refused(Refusal::Overlap { key: again }),
-        refused(Refusal::NothingNew { version: 20 }),
-        refused(Refusal::Untiled {
-            key: Blob::new(alloc),
-        }),
+        refused(alloc, Refusal::OutsideRanges { key: outside })?,
+        refused(alloc, Refusal::Overlap { key: again })?,
+        refused(alloc, Refusal::NothingNew { version: 20 })?,
+        refused(alloc, Refusal::Untiled { key: empty })?,
     ])
 }
 
@@ -147,29 +208,34 @@ fn refusals_with_keys(rt: HostRuntime) -> Result<(), Fail> {
     Ok(())
 }
 
-// Each way in which a try ends.
-const ENDS: &[End] = &[
-    End::Commit { version: 20 },
-    End::ReadOnly,
-    End::Fault(CommitFault::Outside { index: 0 }),
-    End::Fault(CommitFault::KeyTooLarge { index: 1 }),
-    End::Fault(CommitFault::ValueTooLarge { index: 2 }),
-    End::Fault(CommitFault::TooLarge { bytes: 10_000_001 }),
-    End::Fault(CommitFault::VersionsSpent { version: 7 }),
-    End::Fault(CommitFault::LogTooLarge {
+// Each way in which a try is refused.
+const FAULTS: &[CommitFault] = &[
+    CommitFault::Outside { index: 0 },
+    CommitFault::KeyTooLarge { index: 1 },
+    CommitFault::ValueTooLarge { index: 2 },
+    CommitFault::TooLarge { bytes: 10_000_001 },
+    CommitFault::Locked { uid: 3 },
+    CommitFault::TooOld { read: 0, oldest: 1 },
+    CommitFault::NotCommitted { version: 10 },
+    CommitFault::VersionsSpent { version: 7 },
+    CommitFault::LogTooLarge {
         bytes: 4_294_967_296,
-    }),
-    End::Fault(CommitFault::NoMemory),
+    },
+    CommitFault::NoMemory,
 ];
 
 #[test]
 fn ends(rt: HostRuntime) -> Result<(), Fail> {
     let mut out = Blob::new(rt.alloc());
-    for end in ENDS {
-        put_end(&mut out, *end)?;
+    let reads = Seq::new(rt.alloc());
+    put_end(&mut out, &End::Commit { version: 20, reads })?;
+    let reads = Seq::new(rt.alloc());
+    put_end(&mut out, &End::ReadOnly { reads })?;
+    for fault in FAULTS {
+        put_end(&mut out, &End::Fault(*fault))?;
     }
     let text =
-        b" commit 20\n readonly\n 2004 0\n 2102 1\n 2103 2\n 2101 10000001\n versions-spent 7\n log-too-large 4294967296\n no-memory\n";
+        b" commit 20\n readonly\n 2004 0\n 2102 1\n 2103 2\n 2101 10000001\n 1038 3\n 1007 0 1\n 1020 10\n versions-spent 7\n log-too-large 4294967296\n no-memory\n";
     assert_eq!(rt; out.as_slice(), text.as_slice());
     Ok(())
 }

@@ -31,6 +31,7 @@ aborted_sound block now tickets history job h = record {
   distinct = h.distinct;
   snapshot = h.snapshot;
   begun = h.begun;
+  erased = h.erased;
   next = h.next;
   logged = λ e. cc;
 }

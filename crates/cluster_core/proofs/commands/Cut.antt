@@ -101,6 +101,7 @@ cut_sound block now tickets history job h n = record {
   distinct = h.distinct;
   snapshot = h.snapshot;
   begun = let b = h.begun in omega arith;
+  erased = let b = h.erased in omega arith;
   next = let e : now + 1 ≤ now + 1 = omega arith in e;
   logged = h.logged;
 }
@@ -117,8 +118,8 @@ log_there side jobs place job logs n at s r l =
     let e : 1 + place ≡ place + 1 = omega arith in
     ap (λ (xs : List JobLog). log_of xs (place + 1)) l ∙ subst (λ (m : ℕ). log_of (logs_of side jobs) m ≡ Some (log_for job)) e (log_found side 1 jobs place (types.Backup job) (log_for job) n at (own_log side job s r))
 
-pub has_log : (side : Side) (jobs : List Job) (place : ℕ) (job : Backup) (logs : List JobLog) → AreNumbered 1 jobs → slice_get jobs place ≡ Some (types.Backup job) → side ≡ job.side → has_ended job.job.state ≡ false → logs ≡ logs_of side jobs → (log : JobLog) × (log_of logs (place + 1) ≡ Some log)
-has_log side jobs place job logs n at s r l = (log_for job, log_there side jobs place job logs n at s r l)
+pub has_log : (side : Side) (jobs : List Job) (place : ℕ) (job : Backup) (logs : List JobLog) → AreNumbered 1 jobs → slice_get jobs place ≡ Some (types.Backup job) → side ≡ job.side → has_ended job.job.state ≡ false → logs ≡ logs_of side jobs → (begin : ℕ) → begin ≡ job.job.next → job.job.erased ≤ job.job.next → (log : JobLog) × (log_of logs (place + 1) ≡ Some log) × (log.erased ≤ begin)
+has_log side jobs place job logs n at s r l begin b e = (log_for job, log_there side jobs place job logs n at s r l, subst (λ (m : ℕ). job.job.erased ≤ m) (sym b) e)
 
 -- what a chunk of a database's log has
 pub chunk_batches : (w : State) (side : Side) (place : ℕ) (job : Backup) (logs : List JobLog) (history : List Entry) (from until begin end : ℕ) (batches : List Batch) → AreNumbered 1 w.jobs → slice_get w.jobs place ≡ Some (types.Backup job) → side ≡ job.side → has_ended job.job.state ≡ false → logs ≡ logs_of side w.jobs → history ≡ history_on side w → begin ≡ from → end ≡ until → ((log : JobLog) → log_of logs (place + 1) ≡ Some log → batches ≡ logged history log.ranges from until) → batches ≡ logged (history_on job.side w) job.job.terms.ranges begin end

@@ -142,6 +142,7 @@ dumped_sound k block now tickets history job piece file snapshot h f v n =
       distinct = distinct_placed (λ x. x.file.name) (λ x. is_below x.piece.begin piece.begin) one job.job.noted (name_differs block now tickets file.name snapshot now block n job.job.noted h.noted) h.distinct;
       snapshot = begun_le job.job.noted now job.job.snapshot h.snapshot;
       begun = h.begun;
+      erased = h.erased;
       next = h.next;
       logged = h.logged;
     }

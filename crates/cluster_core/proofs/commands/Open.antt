@@ -4,6 +4,7 @@ use Rattle.std.specs.Prelude.{◌≤◌, ◌⊎◌}
 use Rattle.cluster_core.specs.declared.job.Job.TheVariants as types
 use Rattle.cluster_core.specs.Backups.{Backup}
 use Rattle.cluster_core.specs.Jobs.{terms_of, started, is_container}
+use Rattle.cluster_core.proofs.Waiting.{job_more, clients_wait}
 use Rattle.cluster_core.proofs.Started.{started_backup}
 use Rattle.std.proofs.Common.{subst, arith, inl, inr}
 use Rattle.fb_bytes.specs.Bytes.{Bytes}
@@ -46,7 +47,7 @@ use Rattle.cluster_core.specs.State.{State, history_on}
 use Rattle.cluster_core.specs.Moves.{names_said, Luck, Fine, FailsOld, FailsNew, Starved, moved}
 use Rattle.cluster_core.specs.commands.Shared.{done, refuses}
 use Rattle.cluster_core.specs.Sound.{IsOrdered, AreLoggable, BackupSound, IsStored, JobSound, JobStored, AreApart, Sound}
-use Rattle.cluster_core.proofs.Entries.{All-weaker}
+use Rattle.client_core.proofs.Lists.{All-weaker}
 use Rattle.cluster_core.proofs.All.{each_more}
 use Rattle.cluster_core.proofs.Paces.{pace_forward}
 use Rattle.cluster_core.proofs.Known.{Known}
@@ -140,6 +141,7 @@ new_sound block now tickets version number history tag side container ranges i l
   distinct = tt;
   snapshot = let e : 0 ≤ version = omega arith in e;
   begun = let e : version ≤ version = omega arith in e;
+  erased = let e : version ≤ version = omega arith in e;
   next = let e : version ≤ version + 1 = omega arith in e;
   logged = λ e. nothing_logged version now ranges history l a;
 }
@@ -199,7 +201,7 @@ sound_more k p w tag side container ranges version h l m i none empty =
     record {
       clock = record { bound = m; tickets = h.clock.tickets };
       databases = record { histories = later; within = h.databases.within };
-      clients = h.clients;
+      clients = clients_wait p.settings p.clients w.time version w.jobs (w.jobs ++ new_job (length w.jobs + 1) tag side container ranges version ∷ []) w.src w.dst w.clients le (job_more w.jobs (new_job (length w.jobs + 1) tag side container ranges version)) h.clients;
       jobs = record {
         each = each_more (λ n x. JobSound p.settings.block version w.tickets w.src w.dst x) w.jobs (new_job (length w.jobs + 1) tag side container ranges version)
             (new_sound p.settings.block w.time w.tickets version (length w.jobs + 1) (history_on side w) tag side container ranges i l (h.databases.histories side).past)

@@ -42,7 +42,7 @@ use Rattle.cluster_core.specs.Moves.{moved, Luck}
 use Rattle.cluster_core.specs.commands.Seal.{seal_name, seal_fitting, snapshot_bytes, seal_tested, seal_job}
 use Rattle.cluster_core.specs.inner.Plans.{planned, IsPlanAt, IsSafe}
 use Rattle.cluster_core.specs.Sound.{IsNoted, Sound}
-use Rattle.cluster_core.proofs.Entries.{All-weaker}
+use Rattle.client_core.proofs.Lists.{All-weaker}
 use Rattle.cluster_core.proofs.Relied.{known}
 use Rattle.std.specs.Prelude.{◌≡◌, ℕ, ◌+◌, Bool, true, false, cond, List, [], ◌∷◌, Option, Some, None, Err, nat_lt, slice_get, refl}
 use Rattle.std.specs.Prelude.{◌≤◌, ◌⊎◌}
@@ -102,6 +102,7 @@ sealed_sound block now tickets history job h = record {
   distinct = tt;
   snapshot = h.snapshot;
   begun = h.begun;
+  erased = h.erased;
   next = h.next;
   logged = h.logged;
 }

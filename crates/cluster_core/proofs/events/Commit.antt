@@ -1,61 +1,58 @@
 -- The event commit.
-use Rattle.std.specs.Prelude.{◌≡◌, ℕ, ◌+◌, ◌++◌, Bool, false, cond, List, [], ◌∷◌, Option, Some, None, Result, Ok, Err, slice_get, refl}
-use Rattle.std.specs.Prelude.{◌≤◌, ◌⊎◌}
-use Rattle.std.proofs.Common.{subst, arith, inl, inr}
-use Rattle.fb_bytes.specs.Options.{◌>>=◌}
-use Rattle.workload_text.specs.declared.Settings.{Settings}
-use Rattle.workload_text.specs.declared.Side.{Side}
-use Rattle.workload_text.specs.declared.Workload.{Workload}
-use Rattle.database.specs.Commits.{commit_answer, history_after, time_after}
-use Rattle.client_core.specs.Clients.{ClientState, next_ops, who_of, try_of}
-use Rattle.client_core.specs.Ends.{end_of, version_of}
-use Rattle.cluster_core.specs.declared.event.Answer.{Answer}
-use Rattle.cluster_core.specs.Jobs.{Job, logs_of}
-use Rattle.cluster_core.specs.State.{State, history_on, with_history, client_at, put_client}
-use Rattle.cluster_core.specs.Moves.{moved}
-use Rattle.cluster_core.specs.events.Commit.{commit_with, try_in}
-use Rattle.cluster_core.specs.Footprints.{IsEntered}
-use Rattle.cluster_core.proofs.Answered.{IsNext, answer_is_next}
+use Rattle.std.specs.Prelude.{◌≡◌, ℕ, zero, suc, ◌+◌, ◌^◌, ◌<◌, ◌≤◌, Bool, true, false, List, [], ◌∷◌, ◌++◌, length, Option, Some, None, Result, Ok, Err, ◌⊎◌, if◌then◌else◌, slice_get, refl}
+use Rattle.std.specs.List.{AllByRecursion}
+use Rattle.std.proofs.Common.{ap, sym, ◌∙◌, arith, subst, cond, inl, inr}
+use Rattle.std.proofs.lemmas.Bool.{ne_eqb}
+use Rattle.fb_bytes.specs.declared.KeyRange.{KeyRange}
+use Rattle.fb_bytes.specs.Options.{◌>>=◌, IsIn}
 use Rattle.mutations.specs.declared.Entry.{Entry}
 use Rattle.mutations.specs.declared.Mutation.{Mutation}
-use Rattle.mutations.specs.declared.history.Who.{Who}
 use Rattle.mutations.specs.declared.TxOp.{TxOp}
-use Rattle.mutations.specs.Transactions.{writes_of}
-use Rattle.std.specs.Prelude.{◌≡◌, ℕ, zero, suc, ◌+◌, ◌^◌, ◌<◌, ◌≤◌, Bool, false, List, [], ◌∷◌, ◌++◌, length, Option, Some, None, Result, Ok, Err, slice_get, refl}
-use Rattle.std.specs.List.{AllByRecursion}
-use Rattle.std.proofs.Common.{ap, sym, ◌∙◌, arith, subst, cond, length-append}
-use Rattle.std.proofs.lemmas.Bool.{eq-eqb, ne_eqb}
 use Rattle.mutations.specs.declared.Who.{Who}
 use Rattle.mutations.specs.declared.Who.TheVariants as who
 use Rattle.mutations.specs.Clipping.{all_clipped}
 use Rattle.mutations.specs.Spelling.{mutations_spelling}
 use Rattle.mutations.specs.Transactions.{writes_of}
+use Rattle.container_view.specs.Changes.{Grows}
+use Rattle.task_kinds.specs.States.{has_ended}
+use Rattle.workload_text.specs.declared.Settings.{Settings}
+use Rattle.workload_text.specs.declared.Side.{Side}
 use Rattle.workload_text.specs.declared.Side.TheVariants.{Src, Dst}
+use Rattle.workload_text.specs.declared.Workload.{Workload}
 use Rattle.database.specs.declared.CommitFault.{CommitFault}
+use Rattle.database.specs.declared.Found.{Found}
 use Rattle.database.specs.declared.JobLog.{JobLog}
+use Rattle.database.specs.Commits.{Scene, most_version, commit_answer, history_after, time_after}
 use Rattle.database.specs.Dumps.{AreMutationsWithin, AreWithin}
 use Rattle.database.specs.Laws.{IsTaken, CommitLaw}
-use Rattle.database.specs.Commits.{commit_answer, history_after, time_after, most_version}
-use Rattle.client_core.specs.declared.Outcome.{Outcome}
-use Rattle.client_core.specs.Clients.{ClientState, next_ops, after_try, try_of}
-use Rattle.client_core.specs.Legal.{is_by, entries_by, entry_of, committed, IsLegal}
-use Rattle.container_view.specs.Changes.{Grows}
+use Rattle.database.specs.Reads.{reads_at}
+use Rattle.backup_core.specs.Backups.{unless_ended}
+use Rattle.client_core.specs.Clients.{ClientState, next_ops, who_of, after_try, outcome_of, try_of, commit_try}
+use Rattle.client_core.specs.Ends.{end_of, version_of}
+use Rattle.client_core.specs.Laws.{IsSceneOf}
+use Rattle.client_core.specs.Legal.{entries_by}
+use Rattle.client_core.specs.Sound.{IsSoundClient}
+use Rattle.client_core.proofs.Entries.{entries_by-other}
+use Rattle.client_core.proofs.Lists.{All-snoc, All-weaker}
+use Rattle.client_core.proofs.Relied.{try_law, entry_law}
+use Rattle.cluster_core.specs.declared.event.Answer.{Answer}
 use Rattle.cluster_core.specs.declared.job.Job.TheVariants as types
 use Rattle.cluster_core.specs.Backups.{Backup}
-use Rattle.task_kinds.specs.States.{has_ended}
-use Rattle.cluster_core.specs.Jobs.{Job, log_on, with_front, logs_of}
-use Rattle.cluster_core.specs.Sound.{AreNumbered}
-use Rattle.cluster_core.proofs.Grown.{each_sound, each_kept}
-use Rattle.cluster_core.proofs.Numbering.{log_for, own_log}
-use Rattle.cluster_core.specs.State.{State, on_side, history_on, with_history, client_at, put_client}
+use Rattle.cluster_core.specs.Footprints.{IsEntered}
+use Rattle.cluster_core.specs.Jobs.{Job, is_on, log_on, range_on, ranges_on, with_front, logs_of}
 use Rattle.cluster_core.specs.Moves.{moved}
-use Rattle.cluster_core.specs.Sound.{IsOrdered, other_side, IsClientSound, AreLoggable, BackupSound, IsStored, AreApart, Sound, source_of}
-use Rattle.cluster_core.proofs.Lists.{scripts_put, each_put}
-use Rattle.cluster_core.proofs.Entries.{append_nil, entries_by-append, committed-snoc, Follow-snoc, All-snoc, All-weaker, IsRising-snoc}
-use Rattle.cluster_core.proofs.Paces.{pace_forward}
+use Rattle.cluster_core.specs.Sound.{IsOrdered, other_side, ground_of, IsClientSound, AreClientsSound, AreLoggable, BackupSound, IsStored, AreApart, AreNumbered, Sound, source_of}
+use Rattle.cluster_core.specs.State.{State, on_side, history_on, with_history, client_at, put_client}
+use Rattle.cluster_core.specs.events.Commit.{commit_with, scene_on, try_in}
+use Rattle.cluster_core.proofs.Answered.{IsNext, answer_is_next, later_time}
+use Rattle.cluster_core.proofs.Entries.{IsRising-snoc}
+use Rattle.cluster_core.proofs.Grown.{each_sound, each_kept, job_grown, stored_grown, waits, enters}
 use Rattle.cluster_core.proofs.Known.{Known}
-use Rattle.cluster_core.proofs.Grown.{job_grown, stored_grown, waits, enters}
+use Rattle.cluster_core.proofs.Lists.{scripts_put, each_put}
+use Rattle.cluster_core.proofs.Numbering.{log_for, own_log, all_front}
+use Rattle.cluster_core.proofs.Paces.{pace_forward}
 use Rattle.cluster_core.proofs.Touching.{Touches, same}
+use Rattle.cluster_core.proofs.Waiting.{no_more, client_waits}
 
 -- the history with the entry of a version that was taken
 entered : (time pace : ℕ) (v : Option ℕ) (who : Who) (muts : List Mutation) (history : List Entry) → (history_after v who muts history ≡ history) ⊎ IsEntered (time_after v time) history (history_after v who muts history)
@@ -89,12 +86,12 @@ entered_on pace w Dst v who muts clients answer h = record {
   files = inl refl;
 }
 
-try_touches : (s : Settings) (w : State) (n : ℕ) (c : ClientState) (begun : Option ℕ) (ops : Option (List TxOp)) → Touches s.pace w (commit_with w n (begun >>= λ read. ops >>= λ found. Some (try_of s.block w.time s.pace (logs_of c.script.side w.jobs) (history_on c.script.side w) c read found)))
+try_touches : (s : Settings) (w : State) (n : ℕ) (c : ClientState) (begun : Option ℕ) (ops : Option (List TxOp)) → Touches s.pace w (commit_with w n (begun >>= λ read. ops >>= λ found. Some (try_of (scene_on s w c.script.side) c read found)))
 try_touches s w n c None ops = same s.pace w _
 try_touches s w n c (Some read) None = same s.pace w _
 try_touches s w n c (Some read) (Some ops) =
-    let logs = logs_of c.script.side w.jobs in
-    entered_on s.pace w c.script.side (version_of (end_of (commit_answer s.block w.time s.pace logs ops))) (who_of c) (writes_of ops) _ _ (answer_is_next s.block w.time s.pace logs ops)
+    let scene = scene_on s w c.script.side in
+    entered_on s.pace w c.script.side (version_of (outcome_of (scene_on s w c.script.side) c read ops).end) (who_of c) (writes_of ops) _ _ (answer_is_next scene read ops (reads_at scene.block scene.history read ops))
 
 pub commit_touches : (s : Settings) (w : State) (n : ℕ) (o : Option ClientState) → Touches s.pace w (commit_with w n (o >>= try_in s w))
 commit_touches s w n None = same s.pace w _
@@ -140,44 +137,6 @@ each_side P Src Dst w history here there = there Dst
 each_side P Dst Src w history here there = there Src
 each_side P Dst Dst w history here there = here
 
--- where the new history has the same entries by a client as the old one, each side does
-same_entries : (m : ℕ) (side t : Side) (w : State) (history : List Entry) → entries_by m history ≡ entries_by m (on_side side w.src w.dst) → entries_by m (on_side t (with_history side history w).src (with_history side history w).dst) ≡ entries_by m (on_side t w.src w.dst)
-same_entries m Src Src w history e = e
-same_entries m Src Dst w history e = refl
-same_entries m Dst Src w history e = refl
-same_entries m Dst Dst w history e = e
-
-by_own : (n number : ℕ) (x : Entry) (place : ℕ) → x.who ≡ who.Client number place → number ≡ n → entries_by n (x ∷ []) ≡ x ∷ []
-by_own n number x place w e = ap (λ (b : Bool). cond b (x ∷ []) []) (ap (is_by n) w ∙ eq-eqb number n e)
-
-by_other : (m number : ℕ) (x : Entry) (place : ℕ) → x.who ≡ who.Client number place → (number ≡ m → ⊥) → entries_by m (x ∷ []) ≡ []
-by_other m number x place w d = ap (λ (b : Bool). cond b (x ∷ []) []) (ap (is_by m) w ∙ ne_eqb number m d)
-
--- the entry of a try is its client's
-own_entries : (n number : ℕ) (outcome : Outcome) (ops : List TxOp) (o : Option ℕ) (history : List Entry) → number ≡ n → entries_by n (history_after o (who.Client number outcome.place) (writes_of ops) history) ≡ entries_by n history ++ entry_of n outcome ops o
-own_entries n number outcome ops None history e = sym (append_nil (entries_by n history))
-own_entries n number outcome ops (Some version) history e =
-    entries_by-append n history (record { version = version; who = who.Client number outcome.place; muts = writes_of ops } ∷ [])
-    ∙ ap (λ xs. entries_by n history ++ xs) (by_own n number (record { version = version; who = who.Client number outcome.place; muts = writes_of ops }) outcome.place refl e ∙ ap (λ (k : ℕ). record { version = version; who = who.Client k outcome.place; muts = writes_of ops } ∷ []) e)
-
-other_entries : (m number place : ℕ) (muts : List Mutation) (o : Option ℕ) (history : List Entry) → (number ≡ m → ⊥) → entries_by m (history_after o (who.Client number place) muts history) ≡ entries_by m history
-other_entries m number place muts None history d = refl
-other_entries m number place muts (Some version) history d =
-    entries_by-append m history (record { version = version; who = who.Client number place; muts = muts } ∷ [])
-    ∙ ap (λ xs. entries_by m history ++ xs) (by_other m number (record { version = version; who = who.Client number place; muts = muts }) place refl d)
-    ∙ append_nil (entries_by m history)
-
--- a client's script, outcomes and entries after a try
-more_legal : (n number : ℕ) (txns : List (List TxOp)) (outcomes : List Outcome) (history : List Entry) (outcome : Outcome) (ops : List TxOp) (o : Option ℕ) → number ≡ n → slice_get txns (length outcomes) ≡ Some ops → outcome.place ≡ length outcomes + 1 → outcome.attempt ≡ 1 → version_of outcome.end ≡ o → IsLegal n txns outcomes history → IsLegal n txns (outcomes ++ outcome ∷ []) (history_after o (who.Client number outcome.place) (writes_of ops) history)
-more_legal n number txns outcomes history outcome ops o e at place attempt end h = record {
-  follow = Follow-snoc 1 txns outcomes outcome ops at h.follow (place ∙ omega arith) attempt;
-  entries =
-      own_entries n number outcome ops o history e
-      ∙ ap (λ xs. xs ++ entry_of n outcome ops o) h.entries
-      ∙ ap (λ (v : Option ℕ). committed n txns outcomes ++ entry_of n outcome ops v) (sym end)
-      ∙ sym (committed-snoc n txns outcomes outcome ops at);
-}
-
 with_history_jobs : (side : Side) (history : List Entry) (w : State) → (with_history side history w).jobs ≡ w.jobs
 with_history_jobs Src history w = refl
 with_history_jobs Dst history w = refl
@@ -205,13 +164,13 @@ side_cases P Dst Src w history here there = there
 side_cases P Dst Dst w history here there = here refl
 
 -- what a try took, where it took a version
-abbrev IsTaking : ℕ → ℕ → ℕ → List JobLog → List Mutation → Option ℕ → Type 0
-IsTaking block time pace logs muts None = Unit {0}
-IsTaking block time pace logs muts (Some version) = IsTaken block time pace logs muts version
+abbrev IsTaking : Scene → ℕ → List TxOp → Option ℕ → Type 0
+IsTaking scene read ops None = Unit {0}
+IsTaking scene read ops (Some version) = IsTaken scene read ops version
 
-within_after : (block time pace : ℕ) (logs : List JobLog) (o : Option ℕ) (history : List Entry) (who : Who) (muts : List Mutation) → IsTaking block time pace logs muts o → AreWithin block history → AreWithin block (history_after o who muts history)
-within_after block time pace logs None history who muts t h = h
-within_after block time pace logs (Some version) history who muts t h = All-snoc (λ (x : Entry). AreMutationsWithin block x.muts) history (record { version = version; who = who; muts = muts }) h t.within
+within_after : (scene : Scene) (read : ℕ) (ops : List TxOp) (o : Option ℕ) (who : Who) → IsTaking scene read ops o → AreWithin scene.block scene.history → AreWithin scene.block (history_after o who (writes_of ops) scene.history)
+within_after scene read ops None who t h = h
+within_after scene read ops (Some version) who t h = All-snoc (λ (x : Entry). AreMutationsWithin scene.block x.muts) scene.history (record { version = version; who = who; muts = writes_of ops }) h t.within
 
 -- the log of a job that logs is among those of its side
 behind_front : (P : JobLog → Type 0) (o : Option JobLog) (logs : List JobLog) → AllByRecursion P (with_front o logs) → AllByRecursion P logs
@@ -227,56 +186,106 @@ log_at P side (x ∷ xs) zero job log a at l =
     here.0
 log_at P side (x ∷ xs) (suc place) job log a at l = log_at P side xs place job log (behind_front P (log_on side x) (logs_of side xs) a) at l
 
-logged_after : (block time pace : ℕ) (side : Side) (jobs : List Job) (o : Option ℕ) (history : List Entry) (who : Who) (muts : List Mutation) (place : ℕ) (job : Backup) → IsTaking block time pace (logs_of side jobs) muts o → slice_get jobs place ≡ Some (types.Backup job) → side ≡ job.side → has_ended job.job.state ≡ false → AreLoggable job.job.terms.ranges job.job.begin history → AreLoggable job.job.terms.ranges job.job.begin (history_after o who muts history)
-logged_after block time pace side jobs None history who muts place job t at s r a = a
-logged_after block time pace side jobs (Some version) history who muts place job t at s r a =
-    All-snoc (λ (x : Entry). job.job.begin ≤ x.version → length (mutations_spelling (all_clipped job.job.terms.ranges x.muts)) < 2 ^ 32) history (record { version = version; who = who; muts = muts }) a
-    (λ b. log_at (λ log. length (mutations_spelling (all_clipped log.ranges muts)) < 2 ^ 32) side jobs place (types.Backup job) (log_for job) t.logged at (own_log side job s r))
-
-later_time : (time pace : ℕ) (o : Option ℕ) → IsNext time pace o → time ≤ time_after o time
-later_time time pace None e = omega arith
-later_time time pace (Some version) e = let q = e.0 in omega arith
+logged_after : (scene : Scene) (read : ℕ) (ops : List TxOp) (side : Side) (jobs : List Job) (o : Option ℕ) (who : Who) (place : ℕ) (job : Backup) → IsTaking scene read ops o → scene.logs ≡ logs_of side jobs → slice_get jobs place ≡ Some (types.Backup job) → side ≡ job.side → has_ended job.job.state ≡ false → AreLoggable job.job.terms.ranges job.job.begin scene.history → AreLoggable job.job.terms.ranges job.job.begin (history_after o who (writes_of ops) scene.history)
+logged_after scene read ops side jobs None who place job t l at s r a = a
+logged_after scene read ops side jobs (Some version) who place job t l at s r a =
+    All-snoc (λ (x : Entry). job.job.begin ≤ x.version → length (mutations_spelling (all_clipped job.job.terms.ranges x.muts)) < 2 ^ 32) scene.history (record { version = version; who = who; muts = writes_of ops }) a
+    (λ b. log_at (λ log. length (mutations_spelling (all_clipped log.ranges (writes_of ops))) < 2 ^ 32) side jobs place (types.Backup job) (log_for job) (subst (λ (ls : List JobLog). AllByRecursion (λ log. length (mutations_spelling (all_clipped log.ranges (writes_of ops))) < 2 ^ 32) ls) l t.logged) at (own_log side job s r))
 
 grows_after : (block time pace : ℕ) (o : Option ℕ) (history : List Entry) (who : Who) (muts : List Mutation) (job : Backup) → 1 ≤ pace → IsNext time pace o → Grows (source_of block time history job) (source_of block (time_after o time) (history_after o who muts history) job)
 grows_after block time pace None history who muts job q e = waits block time time history job (let s : time ≤ time = omega arith in s)
 grows_after block time pace (Some version) history who muts job q e = enters block time history (record { version = version; who = who; muts = muts }) job (let v = e.0 in omega arith)
 
--- A try keeps what is sound, whatever version it took.
-ended_keeps : (k : Known) (p : Workload) (w : State) (n : ℕ) (c : ClientState) (ops : List TxOp) (outcome : Outcome) (o : Option ℕ) → client_at w.clients n ≡ Some c → next_ops c ≡ Some ops → outcome.place ≡ c.place + 1 → outcome.attempt ≡ 1 → version_of outcome.end ≡ o → IsNext w.time p.settings.pace o → IsTaking p.settings.block w.time p.settings.pace (logs_of c.script.side w.jobs) (writes_of ops) o → Sound p w → Sound p (ended c.script.side w n (after_try c outcome) o (who.Client c.script.number outcome.place) (writes_of ops))
-ended_keeps known p w n c ops outcome o at next place attempt end is_next taking h =
-    let k : IsClientSound w.src w.dst n c = h.clients.each n c at in
-    let pace : 1 ≤ p.settings.pace = pace_forward p in
-    let by : Who = who.Client c.script.number outcome.place in
-    let history : List Entry = history_after o (who.Client c.script.number outcome.place) (writes_of ops) (history_on c.script.side w) in
+-- ---- the clients
+
+in_back : {X : Type 0} (x : X) (xs ys : List X) → IsIn x ys → IsIn x (xs ++ ys)
+in_back x [] ys h = h
+in_back x (y ∷ xs) ys h = inr (in_back x xs ys h)
+
+log_among : (side : Side) (job : Job) (log : JobLog) (rest : List (List KeyRange)) → log_on side job ≡ Some log → IsIn log.ranges (range_on side job ++ rest)
+log_among side (types.Backup backup) log rest e = go (is_on side backup.side) (has_ended backup.job.state) e
+  where
+    some_is : (a b : JobLog) → Some a ≡ Some b → a ≡ b
+    some_is a b q = cc
+
+    go : (on ended : Bool) → (if on then unless_ended ended (log_for backup) else None) ≡ Some log → IsIn log.ranges ((if on then backup.job.terms.ranges ∷ [] else []) ++ rest)
+    go true true q = cc
+    go true false q = inl (ap (λ (l : JobLog). l.ranges) (sym (some_is (log_for backup) log q)))
+    go false ended q = cc
+
+-- what is logged on a side is in the ranges of the side's jobs
+logs_among : (side : Side) (jobs : List Job) → AllByRecursion (λ log. IsIn log.ranges (ranges_on side jobs)) (logs_of side jobs)
+logs_among side [] = tt
+logs_among side (x ∷ xs) =
+    all_front (λ log. IsIn log.ranges (ranges_on side (x ∷ xs))) (log_on side x) (logs_of side xs)
+    (λ log e. log_among side x log (ranges_on side xs) e)
+    (All-weaker (λ log. IsIn log.ranges (ranges_on side xs)) (λ log. IsIn log.ranges (ranges_on side (x ∷ xs))) (logs_of side xs) (λ log h. in_back log.ranges (range_on side x) (ranges_on side xs) h) (logs_among side xs))
+
+scene_is : (p : Workload) (w : State) (side : Side) → Sound p w → IsSceneOf (ground_of p.settings side w.jobs w.src w.dst) w.time (scene_on p.settings w side)
+scene_is p w side h = record {
+  block = refl;
+  time_is = refl;
+  pace = refl;
+  forward = pace_forward p;
+  history = refl;
+  rising = (h.databases.histories side).rising;
+  past = (h.databases.histories side).past;
+  logs = logs_among side w.jobs;
+}
+
+other_entries : (m number place : ℕ) (muts : List Mutation) (o : Option ℕ) (history : List Entry) → (number ≡ m → ⊥) → entries_by m (history_after o (who.Client number place) muts history) ≡ entries_by m history
+other_entries m number place muts None history d = refl
+other_entries m number place muts (Some version) history d = entries_by-other m history (record { version = version; who = who.Client number place; muts = muts }) (ne_eqb number m d)
+
+-- another client of the side where an entry may have come
+beside : (p : Workload) (w : State) (m number place : ℕ) (muts : List Mutation) (o : Option ℕ) (d : ClientState) → 1 ≤ p.settings.pace → IsNext w.time p.settings.pace o → (number ≡ m → ⊥) → IsSoundClient (ground_of p.settings d.script.side w.jobs w.src w.dst) w.time m d → IsSoundClient (record (ground_of p.settings d.script.side w.jobs w.src w.dst) { history = history_after o (who.Client number place) muts (history_on d.script.side w) }) (time_after o w.time) m d
+beside p w m number place muts None d pace is_next differ k = k
+beside p w m number place muts (Some version) d pace is_next differ k =
+    entry_law (ground_of p.settings d.script.side w.jobs w.src w.dst) w.time m (record { version = version; who = who.Client number place; muts = muts }) d (let e = is_next.0 in omega arith) (ne_eqb number m differ) k
+
+other_sound : (p : Workload) (w : State) (side : Side) (m number place : ℕ) (muts : List Mutation) (o : Option ℕ) (d : ClientState) → 1 ≤ p.settings.pace → IsNext w.time p.settings.pace o → (number ≡ m → ⊥) → IsClientSound p.settings w.time w.jobs w.src w.dst m d → IsClientSound p.settings (time_after o w.time) w.jobs (with_history side (history_after o (who.Client number place) muts (history_on side w)) w).src (with_history side (history_after o (who.Client number place) muts (history_on side w)) w).dst m d
+other_sound p w side m number place muts o d pace is_next differ k =
+    let history : List Entry = history_after o (who.Client number place) muts (history_on side w) in
     let le : w.time ≤ time_after o w.time = later_time w.time p.settings.pace o is_next in
+    record {
+      sound = side_cases (λ (xs : List Entry). IsSoundClient (record (ground_of p.settings d.script.side w.jobs w.src w.dst) { history = xs }) (time_after o w.time) m d) side d.script.side w history
+          (λ e. subst (λ (t : Side). IsSoundClient (record (ground_of p.settings d.script.side w.jobs w.src w.dst) { history = history_after o (who.Client number place) muts (history_on t w) }) (time_after o w.time) m d) (sym e) (beside p w m number place muts o d pace is_next differ k.sound))
+          (client_waits p.settings w.time (time_after o w.time) w.jobs w.jobs w.src w.dst m d le (no_more w.jobs w.jobs (λ t. refl)) k).sound;
+      apart = side_cases (λ (xs : List Entry). entries_by m xs ≡ []) side (other_side d.script.side) w history
+          (λ e. other_entries m number place muts o (history_on side w) differ ∙ ap (λ (t : Side). entries_by m (history_on t w)) e ∙ k.apart)
+          k.apart;
+    }
+
+-- A try keeps what is sound, whatever version it took.
+ended_keeps : (k : Known) (p : Workload) (w : State) (n : ℕ) (c : ClientState) (read : ℕ) (ops : List TxOp) (o : Option ℕ) → client_at w.clients n ≡ Some c → commit_try (scene_on p.settings w c.script.side) c ≡ Some (try_of (scene_on p.settings w c.script.side) c read ops) → version_of (outcome_of (scene_on p.settings w c.script.side) c read ops).end ≡ o → IsNext w.time p.settings.pace o → IsTaking (scene_on p.settings w c.script.side) read ops o → Sound p w → Sound p (ended c.script.side w n (after_try c (outcome_of (scene_on p.settings w c.script.side) c read ops)) o (who_of c) (writes_of ops))
+ended_keeps known p w n c read ops o at tried end is_next taking h =
+    let k : IsClientSound p.settings w.time w.jobs w.src w.dst n c = h.clients.each n c at in
+    let pace : 1 ≤ p.settings.pace = pace_forward p in
+    let scene : Scene = scene_on p.settings w c.script.side in
+    let new : ClientState = after_try c (outcome_of (scene_on p.settings w c.script.side) c read ops) in
+    let history : List Entry = history_after o (who_of c) (writes_of ops) (history_on c.script.side w) in
+    let le : w.time ≤ time_after o w.time = later_time w.time p.settings.pace o is_next in
+    let own : IsSoundClient (record (ground_of p.settings c.script.side w.jobs w.src w.dst) { history = history_after o (who_of c) (writes_of ops) (history_on c.script.side w) }) (time_after o w.time) n (after_try c (outcome_of (scene_on p.settings w c.script.side) c read ops)) =
+    subst (λ (v : Option ℕ). IsSoundClient (record (ground_of p.settings c.script.side w.jobs w.src w.dst) { history = history_after v (who_of c) (writes_of ops) (history_on c.script.side w) }) (time_after v w.time) n (after_try c (outcome_of (scene_on p.settings w c.script.side) c read ops))) end
+    (try_law (ground_of p.settings c.script.side w.jobs w.src w.dst) w.time n c (scene_on p.settings w c.script.side) (try_of (scene_on p.settings w c.script.side) c read ops) k.sound (scene_is p w c.script.side h) tried) in
     record {
       clock = record {
         bound = bound_after w.time p.settings.pace o is_next h.clock.bound;
         tickets = with_history_tickets c.script.side history w h.clock.tickets;
       };
       databases = record {
-        histories = λ t. each_side (λ (xs : List Entry). IsOrdered (time_after o w.time) xs) c.script.side t w history (ordered_after w.time p.settings.pace o (history_on c.script.side w) (who.Client c.script.number outcome.place) (writes_of ops) pace is_next (h.databases.histories c.script.side)) (λ u. later_ordered w.time p.settings.pace o (on_side u w.src w.dst) pace is_next (h.databases.histories u));
-        within = λ t. each_side (AreWithin p.settings.block) c.script.side t w history (within_after p.settings.block w.time p.settings.pace (logs_of c.script.side w.jobs) o (history_on c.script.side w) (who.Client c.script.number outcome.place) (writes_of ops) taking (h.databases.within c.script.side)) h.databases.within;
+        histories = λ t. each_side (λ (xs : List Entry). IsOrdered (time_after o w.time) xs) c.script.side t w history (ordered_after w.time p.settings.pace o (history_on c.script.side w) (who_of c) (writes_of ops) pace is_next (h.databases.histories c.script.side)) (λ u. later_ordered w.time p.settings.pace o (on_side u w.src w.dst) pace is_next (h.databases.histories u));
+        within = λ t. each_side (AreWithin p.settings.block) c.script.side t w history (within_after scene read ops o (who_of c) taking (h.databases.within c.script.side)) h.databases.within;
       };
-      clients = record {
-        scripts_are = scripts_put w.clients n c (after_try c outcome) at refl ∙ h.clients.scripts_are;
-        each = each_put (λ m d. IsClientSound (with_history c.script.side history w).src (with_history c.script.side history w).dst m d) w.clients n c (after_try c outcome) at
+      clients = subst (λ (js : List Job). AreClientsSound p.settings p.clients (time_after o w.time) js (with_history c.script.side history w).src (with_history c.script.side history w).dst (put_client w.clients n new)) (sym (with_history_jobs c.script.side history w)) (record {
+        scripts_are = scripts_put w.clients n c new at refl ∙ h.clients.scripts_are;
+        each = each_put (λ m d. IsClientSound p.settings (time_after o w.time) w.jobs (with_history c.script.side history w).src (with_history c.script.side history w).dst m d) w.clients n c new at
             (record {
-              numbered = k.numbered;
-              placed = ap (λ (v : ℕ). v + 1) k.placed ∙ sym (length-append c.outcomes (outcome ∷ []));
-              legal = subst (λ (xs : List Entry). IsLegal n c.script.txns (c.outcomes ++ outcome ∷ []) xs) (sym (here c.script.side w history)) (more_legal n c.script.number c.script.txns c.outcomes (history_on c.script.side w) outcome ops o k.numbered (ap (slice_get c.script.txns) (sym k.placed) ∙ next) (place ∙ ap (λ (v : ℕ). v + 1) k.placed) attempt end k.legal);
+              sound = subst (λ (xs : List Entry). IsSoundClient (record (ground_of p.settings c.script.side w.jobs w.src w.dst) { history = xs }) (time_after o w.time) n (after_try c (outcome_of (scene_on p.settings w c.script.side) c read ops))) (sym (here c.script.side w history)) own;
               apart = ap (entries_by n) (there c.script.side w history) ∙ k.apart;
             })
-            (λ m d differ e.
-            let q : IsClientSound w.src w.dst m d = h.clients.each m d e in
-            let same : entries_by m history ≡ entries_by m (on_side c.script.side w.src w.dst) = other_entries m c.script.number outcome.place (writes_of ops) o (history_on c.script.side w) (λ f. differ (sym k.numbered ∙ f)) in
-            record {
-              numbered = q.numbered;
-              placed = q.placed;
-              legal = record { follow = q.legal.follow; entries = same_entries m c.script.side d.script.side w history same ∙ q.legal.entries };
-              apart = same_entries m c.script.side (other_side d.script.side) w history same ∙ q.apart;
-            });
-      };
+            (λ m d differ e. other_sound p w c.script.side m c.script.number (c.place + 1) (writes_of ops) o d pace is_next (λ f. differ (sym k.sound.numbered ∙ f)) (h.clients.each m d e));
+      });
       jobs = record {
         each = each_sound p.settings.block (time_after o w.time) (with_history c.script.side history w).tickets (with_history c.script.side history w).src (with_history c.script.side history w).dst (with_history c.script.side history w).jobs (λ m x e.
             let f : slice_get w.jobs m ≡ Some (types.Backup x) = ap (λ (js : List Job). slice_get js m) (sym (with_history_jobs c.script.side history w)) ∙ e in
@@ -284,7 +293,7 @@ ended_keeps known p w n c ops outcome o at next place attempt end is_next taking
             subst (λ (t : ℕ). BackupSound p.settings.block (time_after o w.time) t (on_side x.side (with_history c.script.side history w).src (with_history c.script.side history w).dst) x) (sym (with_history_next c.script.side history w))
             (side_cases (λ (xs : List Entry). BackupSound p.settings.block (time_after o w.time) w.tickets xs x) c.script.side x.side w history
             (λ s. job_grown p.settings.block w.time (time_after o w.time) w.tickets w.tickets (history_on x.side w) history x le (same_number w.tickets)
-            (λ r. logged_after p.settings.block w.time p.settings.pace c.script.side w.jobs o (history_on c.script.side w) by (writes_of ops) m x taking f s r (subst (λ (t : Side). AreLoggable x.job.terms.ranges x.job.begin (history_on t w)) (sym s) (j.logged r))) j)
+            (λ r. logged_after scene read ops c.script.side w.jobs o (who_of c) m x taking refl f s r (subst (λ (t : Side). AreLoggable x.job.terms.ranges x.job.begin (history_on t w)) (sym s) (j.logged r))) j)
             (job_grown p.settings.block w.time (time_after o w.time) w.tickets w.tickets (history_on x.side w) (history_on x.side w) x le (same_number w.tickets) j.logged j)));
         apart = subst AreApart (sym (with_history_jobs c.script.side history w)) h.jobs.apart;
         numbered = subst (AreNumbered 1) (sym (with_history_jobs c.script.side history w)) h.jobs.numbered;
@@ -298,26 +307,28 @@ ended_keeps known p w n c ops outcome o at next place attempt end is_next taking
                 let f : slice_get w.jobs m ≡ Some (types.Backup x) = ap (λ (js : List Job). slice_get js m) (sym (with_history_jobs c.script.side history w)) ∙ e in
                 subst (λ (t : ℕ). IsStored p.settings.block (time_after o w.time) t (on_side x.side (with_history c.script.side history w).src (with_history c.script.side history w).dst) files x) (sym (with_history_next c.script.side history w))
                 (side_cases (λ (xs : List Entry). IsStored p.settings.block (time_after o w.time) w.tickets xs files x) c.script.side x.side w history
-                (λ s. stored_grown known p.settings.block w.time (time_after o w.time) w.tickets w.tickets (history_on c.script.side w) history files x (grows_after p.settings.block w.time p.settings.pace o (history_on c.script.side w) by (writes_of ops) x pace is_next) (same_number w.tickets) (subst (λ (t : Side). IsStored p.settings.block w.time w.tickets (history_on t w) files x) (sym s) (st.each m (types.Backup x) f)))
+                (λ s. stored_grown known p.settings.block w.time (time_after o w.time) w.tickets w.tickets (history_on c.script.side w) history files x (grows_after p.settings.block w.time p.settings.pace o (history_on c.script.side w) (who_of c) (writes_of ops) x pace is_next) (same_number w.tickets) (subst (λ (t : Side). IsStored p.settings.block w.time w.tickets (history_on t w) files x) (sym s) (st.each m (types.Backup x) f)))
                 (stored_grown known p.settings.block w.time (time_after o w.time) w.tickets w.tickets (history_on x.side w) (history_on x.side w) files x (waits p.settings.block w.time (time_after o w.time) (history_on x.side w) x le) (same_number w.tickets) (st.each m (types.Backup x) f))));
           };
     }
 
 -- what a commit's answer took
-taken_of : (block time pace : ℕ) (logs : List JobLog) (ops : List TxOp) (r : Result (Option ℕ) CommitFault) → CommitLaw → commit_answer block time pace logs ops ≡ r → IsTaking block time pace logs (writes_of ops) (version_of (end_of r))
-taken_of block time pace logs ops (Ok None) law e = tt
-taken_of block time pace logs ops (Ok (Some version)) law e = law block time pace logs ops version e
-taken_of block time pace logs ops (Err fault) law e = tt
+taken_of : (scene : Scene) (read : ℕ) (ops : List TxOp) (reads : List Found) (r : Result (Option ℕ) CommitFault) → CommitLaw → commit_answer scene read ops ≡ r → IsTaking scene read ops (version_of (end_of r reads))
+taken_of scene read ops reads (Ok None) law e = tt
+taken_of scene read ops reads (Ok (Some version)) law e = law scene read ops version e
+taken_of scene read ops reads (Err fault) law e = tt
 
-try_keeps : (k : Known) (p : Workload) (w : State) (n : ℕ) (c : ClientState) (begun : Option ℕ) (ops : Option (List TxOp)) → client_at w.clients n ≡ Some c → next_ops c ≡ ops → Sound p w → Sound p (commit_with w n (begun >>= λ read. ops >>= λ found. Some (try_of p.settings.block w.time p.settings.pace (logs_of c.script.side w.jobs) (history_on c.script.side w) c read found))).state
-try_keeps k p w n c None ops at next h = h
-try_keeps k p w n c (Some read) None at next h = h
-try_keeps k p w n c (Some read) (Some ops) at next h =
-    let logs = logs_of c.script.side w.jobs in
-    let outcome : Outcome = record { place = c.place + 1; attempt = 1; read = read; end = end_of (commit_answer p.settings.block w.time p.settings.pace (logs_of c.script.side w.jobs) ops) } in
-    ended_keeps k p w n c ops outcome (version_of outcome.end) at next refl refl refl (answer_is_next p.settings.block w.time p.settings.pace logs ops)
-    (taken_of p.settings.block w.time p.settings.pace (logs_of c.script.side w.jobs) ops (commit_answer p.settings.block w.time p.settings.pace (logs_of c.script.side w.jobs) ops) k.commit refl) h
+try_keeps : (k : Known) (p : Workload) (w : State) (n : ℕ) (c : ClientState) (begun : Option ℕ) (ops : Option (List TxOp)) → client_at w.clients n ≡ Some c → c.begun ≡ begun → next_ops c ≡ ops → Sound p w → Sound p (commit_with w n (begun >>= λ read. ops >>= λ found. Some (try_of (scene_on p.settings w c.script.side) c read found))).state
+try_keeps k p w n c None ops at b next h = h
+try_keeps k p w n c (Some read) None at b next h = h
+try_keeps k p w n c (Some read) (Some ops) at b next h =
+    let scene : Scene = scene_on p.settings w c.script.side in
+    let reads : List Found = reads_at p.settings.block (history_on c.script.side w) read ops in
+    ended_keeps k p w n c read ops (version_of (outcome_of (scene_on p.settings w c.script.side) c read ops).end) at
+    (ap (λ (x : Option ℕ). x >>= λ r. next_ops c >>= λ found. Some (try_of (scene_on p.settings w c.script.side) c r found)) b ∙ ap (λ (x : Option (List TxOp)). x >>= λ found. Some (try_of (scene_on p.settings w c.script.side) c read found)) next)
+    refl (answer_is_next scene read ops reads)
+    (taken_of scene read ops reads (commit_answer (scene_on p.settings w c.script.side) read ops) k.commit refl) h
 
 pub commit_keeps : (k : Known) (p : Workload) (w : State) (n : ℕ) (o : Option ClientState) → client_at w.clients n ≡ o → Sound p w → Sound p (commit_with w n (o >>= try_in p.settings w)).state
 commit_keeps k p w n None at h = h
-commit_keeps k p w n (Some c) at h = try_keeps k p w n c c.begun (next_ops c) at refl h
+commit_keeps k p w n (Some c) at h = try_keeps k p w n c c.begun (next_ops c) at refl refl h

@@ -67,6 +67,8 @@ abort_side p Src src dst v clients desk files place job h plan at s = record {
   src_block = h.src_block;
   dst_block = h.dst_block;
   pace = h.pace;
+  src_oldest = h.src_oldest;
+  dst_oldest = h.dst_oldest;
   src_logs = ap (without_log (place + 1)) h.src_logs ∙ sym (abort_logs Src 1 desk.jobs place job h.sound.jobs.numbered at ∙ ap (λ (n : ℕ). without_log n (logs_of Src desk.jobs)) (let e : 1 + place ≡ place + 1 = omega arith in e));
   dst_logs = h.dst_logs ∙ sym (other_logs Dst desk.jobs place job at (ap (is_on Dst) (sym s)));
   sound = sound_step p (state_of clients src dst v desk files) (Fine Silent) _ h.sound (abort_done p (state_of clients src dst v desk files) place (desk.place + 1) job plan at refl);
@@ -75,6 +77,8 @@ abort_side p Dst src dst v clients desk files place job h plan at s = record {
   src_block = h.src_block;
   dst_block = h.dst_block;
   pace = h.pace;
+  src_oldest = h.src_oldest;
+  dst_oldest = h.dst_oldest;
   src_logs = h.src_logs ∙ sym (other_logs Src desk.jobs place job at (ap (is_on Src) (sym s)));
   dst_logs = ap (without_log (place + 1)) h.dst_logs ∙ sym (abort_logs Dst 1 desk.jobs place job h.sound.jobs.numbered at ∙ ap (λ (n : ℕ). without_log n (logs_of Dst desk.jobs)) (let e : 1 + place ≡ place + 1 = omega arith in e));
   sound = sound_step p (state_of clients src dst v desk files) (Fine Silent) _ h.sound (abort_done p (state_of clients src dst v desk files) place (desk.place + 1) job plan at refl);

@@ -34,7 +34,7 @@ use Rattle.cluster_core.proofs.plans.Put.{ticket_left}
 pub gone_world : (p : Workload) (src dst : Database) (v : Versions) (w : State) (place : ℕ) → place ≡ w.place + 1 → IsWorld p src dst v w → IsWorld p src dst v (record w { place = place })
 gone_world p src dst v w place e h =
     subst (λ (n : ℕ). IsWorld p src dst v (record w { place = n })) (sym e)
-    (record { src_block = h.src_block; dst_block = h.dst_block; pace = h.pace; src_logs = h.src_logs; dst_logs = h.dst_logs; sound = sound_gone p w h.sound })
+    (record { src_block = h.src_block; dst_block = h.dst_block; pace = h.pace; src_oldest = h.src_oldest; dst_oldest = h.dst_oldest; src_logs = h.src_logs; dst_logs = h.dst_logs; sound = sound_gone p w h.sound })
 
 at_place : (p : Workload) (w : State) (P : Type 0) (o : Option Command) → slice_get p.operator w.place ≡ o → (o ≡ None → P) → ((command : Command) → slice_get p.operator w.place ≡ Some command → P) → P
 at_place p w P None e none some = none refl

@@ -80,6 +80,8 @@ put_world p src dst v w filing place files h plan safe e f =
       src_block = h.src_block;
       dst_block = h.dst_block;
       pace = h.pace;
+      src_oldest = h.src_oldest;
+      dst_oldest = h.dst_oldest;
       src_logs = h.src_logs ∙ sym (logs_like Src w.jobs filing.place safe.job (changed filing.change safe.job) safe.at (like_changed filing.change safe.job));
       dst_logs = h.dst_logs ∙ sym (logs_like Dst w.jobs filing.place safe.job (changed filing.change safe.job) safe.at (like_changed filing.change safe.job));
       sound = sound_step p w (Fine Silent) _ h.sound (put_step p w filing (Fine Silent) refl plan safe);
@@ -99,4 +101,4 @@ failed_step p w filing files plan safe (inr e) = (FailsNew, put_step p w filing 
 pub failed_world : (p : Workload) (src dst : Database) (v : Versions) (w : State) (filing : Filing) (files : Option (List File)) → IsWorld p src dst v w → IsPlan p w (plans.Put filing) → (safe : IsSafe w (plans.Put filing)) → (files ≡ w.files) ⊎ (files ≡ with_put filing.whole filing.bytes w.files) → IsWorld p src dst v (record w { files = files })
 failed_world p src dst v w filing files h plan safe o =
     let s = failed_step p w filing files plan safe o in
-    record { src_block = h.src_block; dst_block = h.dst_block; pace = h.pace; src_logs = h.src_logs; dst_logs = h.dst_logs; sound = sound_step p w s.0 (moved (Err VaultFault) (record w { files = files })) h.sound s.1 }
+    record { src_block = h.src_block; dst_block = h.dst_block; pace = h.pace; src_oldest = h.src_oldest; dst_oldest = h.dst_oldest; src_logs = h.src_logs; dst_logs = h.dst_logs; sound = sound_step p w s.0 (moved (Err VaultFault) (record w { files = files })) h.sound s.1 }

@@ -1,5 +1,5 @@
 -- A plan that starts a job is carried out.
-use Rattle.std.specs.Prelude.{◌≡◌, ℕ, ◌+◌, ◌<◌, Bool, true, false, cond, List, [], ◌∷◌, ◌++◌, length, take, Option, Some, None, Result, Ok, Err, ◌⊎◌, nat_lt, if◌then◌else◌, refl}
+use Rattle.std.specs.Prelude.{◌≡◌, ℕ, ◌+◌, ◌<◌, ◌≤◌, Bool, true, false, cond, List, [], ◌∷◌, ◌++◌, length, take, Option, Some, None, Result, Ok, Err, ◌⊎◌, nat_lt, if◌then◌else◌, refl}
 use Rattle.std.specs.List.{AllByRecursion}
 use Rattle.std.proofs.Common.{ap, sym, ◌∙◌, inl, inr, arith, subst}
 use Rattle.std.proofs.lemmas.Bool.{lt-ltb, ne_eqb}
@@ -12,7 +12,7 @@ use Rattle.workload_text.specs.declared.Side.TheVariants.{Src, Dst}
 use Rattle.workload_text.specs.declared.Workload.{Workload}
 use Rattle.database.specs.declared.JobLog.{JobLog}
 use Rattle.database.specs.Logs.{log_of, with_log}
-use Rattle.database.specs.Commits.{Database, most_version, next_version}
+use Rattle.database.specs.Commits.{Database, most_version, oldest_at, next_version}
 use Rattle.mutations.specs.declared.Entry.{Entry}
 use Rattle.container_view.specs.Names.{names_inside}
 use Rattle.client_core.specs.Clients.{ClientState}
@@ -34,7 +34,8 @@ use Rattle.cluster_core.specs.commands.Open.{new_job, open_over, names_listed}
 use Rattle.cluster_core.specs.Step.{step}
 use Rattle.cluster_core.specs.inner.Plans.{IsPlan}
 use Rattle.cluster_core.specs.inner.World.{Desk, state_of, IsWorld, logs_more, IsListed, IsFirstName}
-use Rattle.cluster_core.proofs.Entries.{append_nil}
+use Rattle.client_core.proofs.Lists.{append_nil}
+use Rattle.cluster_core.proofs.Oldest.{oldest_later}
 use Rattle.cluster_core.proofs.plans.Put.{sound_step}
 
 listed_names : (container : Bytes) (names : List Bytes) (o : Option (List File)) → ((files : List File) → o ≡ Some files → names ≡ names_inside container files) → names_listed container o names ≡ names
@@ -119,6 +120,16 @@ more_history Src Dst log db = refl
 more_history Dst Src log db = refl
 more_history Dst Dst log db = refl
 
+more_oldest : (side other : Side) (log : JobLog) (db : Database) → (logs_more side other log db).oldest ≡ db.oldest
+more_oldest Src Src log db = refl
+more_oldest Src Dst log db = refl
+more_oldest Dst Src log db = refl
+more_oldest Dst Dst log db = refl
+
+-- the version that a step takes isn't before the newest one
+next_later : (now pace version : ℕ) → next_version now pace ≡ Ok version → now ≤ version
+next_later now pace version e = let m = next_is now pace version e in omega (arith, m.1)
+
 -- the parts after a start
 pub record IsStart (side : Side) (tag container : Bytes) (ranges : List KeyRange) (src dst src' dst' : Database) (v v' : Versions) (desk : Desk) (jobs : List Job) (next version : ℕ) : Type 0 where
   pub number : ℕ
@@ -157,10 +168,18 @@ start_world p side tag container ranges src dst src' dst' v v' clients desk file
       src_block = ap (λ (x : Database). x.block) i.src_is ∙ more_block side Src _ src ∙ h.src_block;
       dst_block = ap (λ (x : Database). x.block) i.dst_is ∙ more_block side Dst _ dst ∙ h.dst_block;
       pace = ap (λ (x : Versions). x.pace) i.time ∙ h.pace;
+      src_oldest = kept_oldest src src' side Src (new_log i.number ranges version) i.src_is h.src_oldest;
+      dst_oldest = kept_oldest dst dst' side Dst (new_log i.number ranges version) i.dst_is h.dst_oldest;
       src_logs = ap (λ (x : Database). x.logs) i.src_is ∙ started_logs side Src desk.jobs tag container ranges version i.number src h.sound.jobs.numbered i.number_is h.src_logs ∙ ap (λ (n : ℕ). logs_of Src (desk.jobs ++ new_job n tag side container ranges version ∷ [])) i.number_is ∙ ap (logs_of Src) (sym i.jobs_are);
       dst_logs = ap (λ (x : Database). x.logs) i.dst_is ∙ started_logs side Dst desk.jobs tag container ranges version i.number dst h.sound.jobs.numbered i.number_is h.dst_logs ∙ ap (λ (n : ℕ). logs_of Dst (desk.jobs ++ new_job n tag side container ranges version ∷ [])) i.number_is ∙ ap (logs_of Dst) (sym i.jobs_are);
       sound = sound_step p (state_of clients src dst v desk files) s.0 _ h.sound s.1;
     }
+  where
+    kept_oldest : (db db' : Database) (of on : Side) (log : JobLog) → db' ≡ logs_more of on log db → db.oldest ≤ oldest_at v.now → db'.oldest ≤ oldest_at v'.now
+    kept_oldest db db' of on log e k =
+        subst (λ (n : ℕ). db'.oldest ≤ oldest_at n) (sym (ap (λ (x : Versions). x.now) i.time))
+        (subst (λ (n : ℕ). n ≤ oldest_at version) (sym (ap (λ (x : Database). x.oldest) e ∙ more_oldest of on log db))
+        (oldest_later db.oldest v.now version k (next_later v.now v.pace version i.version_is)))
 
 -- a start that was taken back
 pub start_undone : (src dst src' dst' : Database) (v v' : Versions) (clients : List ClientState) (desk : Desk) (files : Option (List File)) (jobs : List Job) → (src' ≡ src) × (dst' ≡ dst) × (v' ≡ v) → jobs ≡ desk.jobs → state_of clients src' dst' v' (record { jobs = jobs; place = desk.place; tickets = desk.tickets }) files ≡ state_of clients src dst v desk files

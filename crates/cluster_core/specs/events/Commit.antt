@@ -2,6 +2,8 @@
 use Rattle.std.specs.Prelude.{ℕ, Option, Some, None, Ok}
 use Rattle.fb_bytes.specs.Options.{◌>>=◌}
 use Rattle.workload_text.specs.declared.Settings.{Settings}
+use Rattle.workload_text.specs.declared.Side.{Side}
+use Rattle.database.specs.Commits.{Scene}
 use Rattle.client_core.specs.Clients.{ClientState, Try, commit_try}
 use Rattle.cluster_core.specs.declared.event.Answer.TheVariants.{Nothing, Outcome}
 use Rattle.cluster_core.specs.Jobs.{logs_of}
@@ -18,11 +20,20 @@ abbrev pub commit_with : State → ℕ → Option Try → Moved
 commit_with state number None = moved (Ok Nothing) state
 commit_with state number (Some try) = moved (Ok (Outcome try.outcome)) (after state number try)
 
+-- what an entry of a side's database is decided by
+abbrev pub scene_on : Settings → State → Side → Scene
+scene_on settings state side =
+    record {
+      block = settings.block;
+      time = state.time;
+      pace = settings.pace;
+      logs = logs_of side state.jobs;
+      history = history_on side state;
+    }
+
 -- a client's try in this state
 abbrev pub try_in : Settings → State → ClientState → Option Try
-try_in settings state client =
-    commit_try settings.block state.time settings.pace (logs_of client.script.side state.jobs)
-    (history_on client.script.side state) client
+try_in settings state client = commit_try (scene_on settings state client.script.side) client
 
 -- A try is made where the client is there and has begun a transaction.
 abbrev pub commit : Settings → State → ℕ → Moved

@@ -1,5 +1,5 @@
 -- The machine's state of the parts that keep it, and the steps of single methods.
-use Rattle.std.specs.Prelude.{◌≡◌, ℕ, List, [], ◌∷◌, Option, Some, None, Result, Ok, Err}
+use Rattle.std.specs.Prelude.{◌≡◌, ℕ, ◌≤◌, List, [], ◌∷◌, Option, Some, None, Result, Ok, Err}
 use Rattle.std.specs.List.{AllByRecursion-prop}
 use Rattle.std.specs.Coded.{Coded, prop_coded}
 use Rattle.fb_outside.specs.declared.File.{File}
@@ -13,7 +13,7 @@ use Rattle.workload_text.specs.declared.Workload as workload
 use Rattle.workload_text.specs.Commands.{IsCommand, IsCommand-prop}
 use Rattle.database.specs.declared.JobLog.{JobLog}
 use Rattle.database.specs.Logs.{with_log, without_log}
-use Rattle.database.specs.Commits.{Database}
+use Rattle.database.specs.Commits.{Database, scene_of, oldest_at}
 use Rattle.fb_bytes.specs.Bytes.{Bytes}
 use Rattle.fb_bytes.specs.Options.{◌>>=◌}
 use Rattle.workload_text.specs.declared.Side.{Side}
@@ -80,6 +80,9 @@ pub record IsWorld (workload : Workload) (src dst : Database) (versions : Versio
   pub src_block : src.block ≡ workload.settings.block
   pub dst_block : dst.block ≡ workload.settings.block
   pub pace : versions.pace ≡ workload.settings.pace
+  -- each database keeps what can be read
+  pub src_oldest : src.oldest ≤ oldest_at versions.now
+  pub dst_oldest : dst.oldest ≤ oldest_at versions.now
   -- each database has the logs of its jobs
   pub src_logs : src.logs ≡ logs_of Src state.jobs
   pub dst_logs : dst.logs ≡ logs_of Dst state.jobs
@@ -92,7 +95,7 @@ begun_in clients number time = client_at clients number >>= begun_client time
 -- the client's try against one database, where it has begun a transaction
 abbrev pub tried_in : List ClientState → ℕ → Database → Versions → Option Try
 tried_in clients number db versions =
-    client_at clients number >>= commit_try db.block versions.now versions.pace db.logs db.history
+    client_at clients number >>= commit_try (scene_of db versions)
 
 -- the side of the client of that number
 abbrev pub side_in : List ClientState → ℕ → Option Side

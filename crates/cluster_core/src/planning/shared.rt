@@ -1,6 +1,6 @@
 //! What the commands share: the newest job with a tag, and the file of a job.
 
-ghost use Rattle.std.specs.Prelude.{◌≡◌, ◌<◌, Some, option_map, slice_get, IfOk};
+ghost use Rattle.std.specs.Prelude.{◌≡◌, ◌≤◌, ◌<◌, Some, option_map, slice_get, IfOk};
 ghost use Rattle.container_view.specs.Files as files;
 ghost use Rattle.cluster_core.specs.declared.plan.Filing.{Filing};
 ghost use Rattle.cluster_core.specs.Jobs as jobs;
@@ -59,6 +59,7 @@ impl<V: Vault> World<V> {
         ensures history { result.now.history ≡ history_on side self.now.state }
         ensures block { result.now.block ≡ self.now.workload.settings.block }
         ensures logs { result.now.logs ≡ jobs.logs_of side self.now.state.jobs }
+        ensures oldest { result.now.oldest ≤ self.now.state.time }
     {
         match side {
             Side::Src => &self.src,

@@ -511,26 +511,10 @@ pub const ENDINGS: &[Case] = &[
             (REPLAY, b"sett a", NONE, 2, b"refused text 1 word\n"),
             (
                 REPLAY,
-                b"pace 5000\ntick\n",
+                b"operator\npause\ntick\n",
                 NONE,
                 2,
-                b"refused text 2 place\n",
-            ),
-            (REPLAY, b"pace 4999\n", NONE, 0, b"end 0\n"),
-            (REPLAY, b"pace 5000\n", NONE, 15, b"refused not-built 1\n"),
-            (
-                REPLAY,
-                b"client 1 src\n# a comment\nclient 2 src\n",
-                NONE,
-                15,
-                b"refused not-built 3\n",
-            ),
-            (
-                REPLAY,
-                b"client 1 src\ntxn\nget a\nset a 1\n",
-                NONE,
-                15,
-                b"refused not-built 3\n",
+                b"refused text 3 place\n",
             ),
             (
                 REPLAY,

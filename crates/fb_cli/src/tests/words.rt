@@ -87,14 +87,6 @@ pub const LATER: &[Case] = &[(
     &[
         (&["run"], SMALLEST, NONE, 15, NOT_BUILT),
         (&["run", "--brief"], SMALLEST, NONE, 15, NOT_BUILT),
-        (&["expire", "box", "20"], b"", NONE, 15, NOT_BUILT),
-        (
-            &["expire", "--restorable-after=9", "box", "--force", "20"],
-            b"",
-            NONE,
-            15,
-            NOT_BUILT,
-        ),
         (
             &["generate", "0", "2", "100000", "--text"],
             b"",

@@ -11,7 +11,9 @@ pub overflow_add-number : goal.overflow_add-number
 overflow_add-number g c = record { fits = number_fits c.self.inside.jobs.items c.args.place c.self.inside.jobs.len c.self.inside.jobs.cap (types.Backup c.args.backup.now) (subst (λ (seen : Seen). slice_get seen.state.jobs c.args.place ≡ Some (types.Backup c.args.backup.now)) (sym c.self.view_is) c.requires.at) c.self.inside.jobs.ok c.self.inside.jobs.small }
 
 pub log_chunk-requires : goal.log_chunk-requires
-log_chunk-requires g c = has_log c.side.result c.args.self.now.state.jobs c.args.place c.args.backup.now c.db-db.result.now.logs (subst (λ (seen : Seen). Sound seen.workload seen.state) c.self.view_is c.self.invariant.sound).jobs.numbered c.requires.at c.side.ensures c.requires.running c.db-db.ensures.logs
+log_chunk-requires g c =
+    let sound = subst (λ (seen : Seen). Sound seen.workload seen.state) c.self.view_is c.self.invariant.sound in
+    has_log c.side.result c.args.self.now.state.jobs c.args.place c.args.backup.now c.db-db.result.now.logs sound.jobs.numbered c.requires.at c.side.ensures c.requires.running c.db-db.ensures.logs c.next.result (c.next.ensures ∙ ap (λ (h : BackupJob). h.next) c.job.ensures) (sound.jobs.each c.args.place (types.Backup c.args.backup.now) c.requires.at).erased
 
 pub write_log_at-requires : goal.write_log_at-requires
 write_log_at-requires g c =

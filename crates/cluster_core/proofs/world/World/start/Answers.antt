@@ -87,3 +87,9 @@ returns-in_default-push-clause-step g c =
     let kept : c.push.new.self.items ≡ c.self.inside.jobs.items = search in
     let same : record old { jobs = c.push.new.self.items } ≡ old = ap (λ (js : List Job). record old { jobs = js }) kept in
     starved_step c.args.self.now.workload c.args.self.now.state (record old { jobs = c.push.new.self.items }) (Err NoMemory) refl (same ∙ ap (λ (s : Seen). s.state) c.self.view_is)
+
+pub begin_log-requires-clause-src_past : goal.begin_log-requires-clause-src_past
+begin_log-requires-clause-src_past g c = (c.self.invariant.sound.databases.histories Src).past
+
+pub begin_log-requires-clause-dst_past : goal.begin_log-requires-clause-dst_past
+begin_log-requires-clause-dst_past g c = (c.self.invariant.sound.databases.histories Dst).past

@@ -4,12 +4,13 @@ use Rattle.cluster_core.specs.Moves.{Fine, Silent}
 use Rattle.cluster_core.proofs.plans.Operator.{made, commit_made}
 use Rattle.cluster_core.proofs.Footprints.{step_touches}
 use Rattle.cluster_core.proofs.world.World.step.Goals as goal
-use Rattle.cluster_core.proofs.world.World.step.Goals.{in-Begin, in-Commit, in-Command}
+use Rattle.cluster_core.proofs.world.World.step.Goals.{in-Begin, in-Commit, in-Tick, in-Command}
 
 pub returns-clause-step : goal.returns-clause-step
 returns-clause-step g c = elim c.match-event.branch [
   | in-Begin w ↦ made c.args.self.now.workload c.args.self.now.state c.args.event.now (events.Begin w.in-Begin.client) c.match-event.answer (Ok w.begin.result) c.match-event.self w.begin.new.self w.in-Begin.is w.answer-is w.self-is (record { luck = Fine Silent; gives = w.begin.ensures.step })
   | in-Commit w ↦ made c.args.self.now.workload c.args.self.now.state c.args.event.now (events.Commit w.in-Commit.client) c.match-event.answer w.commit-answer.result c.match-event.self w.commit-answer.new.self w.in-Commit.is w.answer-is w.self-is (commit_made c.args.self.now.workload c.args.self.now.state w.in-Commit.client w.commit-answer.result w.commit-answer.new.self.state w.commit-answer.ensures.step)
+  | in-Tick w ↦ made c.args.self.now.workload c.args.self.now.state c.args.event.now (events.Tick w.in-Tick.n) c.match-event.answer w.tick-answer.result c.match-event.self w.tick-answer.new.self w.in-Tick.is w.answer-is w.self-is (record { luck = Fine Silent; gives = w.tick-answer.ensures.step })
   | in-Command w ↦ made c.args.self.now.workload c.args.self.now.state c.args.event.now events.Command c.match-event.answer w.operate-answer.result c.match-event.self w.operate-answer.new.self w.in-Command.is w.answer-is w.self-is (record { luck = w.operate-answer.ensures.step.0; gives = w.operate-answer.ensures.step.1 })
 ]
 

@@ -1,8 +1,0 @@
-pub mod Lists
-pub mod Entries
-mod Following
-mod Grounds
-pub mod Known
-mod Trying
-pub mod Soundness
-pub mod Relied

@@ -1,5 +1,0 @@
-pub mod Ends
-pub mod Clients
-pub mod Legal
-pub mod Sound
-pub mod Laws

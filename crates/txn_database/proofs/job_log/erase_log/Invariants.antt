@@ -1,7 +1,0 @@
-use Rattle.std.proofs.Common.{◌≡◌}
-use Rattle.txn_database.specs.Logs.{erased_to}
-use Rattle.fb_bytes.proofs.Mapped.{mapped}
-use Rattle.txn_database.proofs.job_log.erase_log.Given as goal
-
-abbrev pub invariant-loop-log : goal.invariant-loop-log
-invariant-loop-log l = l.logs ≡ mapped (erased_to l.job l.below) l.log-index l.initial.logs

@@ -1,5 +1,0 @@
-use Rattle.txn_database.proofs.Causes.{cause_law}
-use Rattle.txn_database.proofs.laws.cause_law.Goals as goal
-
-pub returns : goal.returns
-returns c = cause_law

@@ -1,5 +1,0 @@
-use Rattle.txn_database.proofs.Serial.{leaves_reads_law}
-use Rattle.txn_database.proofs.laws.leaves_reads_law.Goals as goal
-
-pub returns : goal.returns
-returns c = leaves_reads_law

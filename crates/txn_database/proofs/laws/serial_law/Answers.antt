@@ -1,5 +1,0 @@
-use Rattle.txn_database.proofs.Serial.{serial_law}
-use Rattle.txn_database.proofs.laws.serial_law.Goals as goal
-
-pub returns : goal.returns
-returns c = serial_law
