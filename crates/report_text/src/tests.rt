@@ -88,8 +88,8 @@ fn answered(alloc: Global, line: ScheduleLine, answer: Answer) -> Result<EventLi
     told(alloc, line, None, EventAnswer::Step(Ok(answer)))
 }
 
-// Lines of time and of an agent.
-fn turns(alloc: Global) -> Result<[EventLine; 7], AllocError> {
+// A line of time, and an agent's claim with what comes of it.
+fn claims(alloc: Global) -> Result<[EventLine; 3], AllocError> {
     let task = Answer::Task {
         uid: 3,
         kind: Kind::BackupRange,
@@ -97,12 +97,18 @@ fn turns(alloc: Global) -> Result<[EventLine; 7], AllocError> {
     };
     let ticked = Answer::Version { version: 15 };
     let extended = Answer::Until { until: 120 };
-    let taken = Answer::Taken { ticket: 4 };
-    let closed = Answer::Closed { uid: 3 };
     Ok([
         answered(alloc, ScheduleLine::Tick { n: 5 }, ticked)?,
         answered(alloc, ScheduleLine::Claim { agent: 1, pick: 7 }, task)?,
         answered(alloc, ScheduleLine::Extend { agent: 1 }, extended)?,
+    ])
+}
+
+// What an agent does with its task.
+fn turns(alloc: Global) -> Result<[EventLine; 4], AllocError> {
+    let taken = Answer::Taken { ticket: 4 };
+    let closed = Answer::Closed { uid: 3 };
+    Ok([
         answered(alloc, ScheduleLine::Take { agent: 1 }, taken)?,
         answered(alloc, ScheduleLine::Place { agent: 1 }, Answer::Loaded)?,
         answered(alloc, ScheduleLine::Close { agent: 1 }, closed)?,
@@ -121,13 +127,13 @@ const TURNS: &[u8] = b"tick 5 -> version 15\n\
 
 #[test]
 fn agents_lines_and_a_command(rt: HostRuntime) -> Result<(), Fail> {
-    let events = turns(rt.alloc())?;
     let waits = CommandLine {
         command: CommandKind::Wait,
         answer: Answer::Going,
     };
     let mut out = Blob::new(rt.alloc());
-    put_events(rt.alloc(), &mut out, &events)?;
+    put_events(rt.alloc(), &mut out, &claims(rt.alloc())?)?;
+    put_events(rt.alloc(), &mut out, &turns(rt.alloc())?)?;
     put_told(rt.alloc(), &mut out, 12, &waits)?;
     assert_eq!(rt; out.as_slice(), TURNS);
     Ok(())
@@ -147,15 +153,21 @@ fn tried(alloc: Global, count: usize) -> Result<Answer, AllocError> {
     }))
 }
 
-// Lines of a client and of drains: what stands in place, and what stands behind a pointer.
-fn short_and_long(alloc: Global) -> Result<[EventLine; 5], AllocError> {
+// Lines of clients: what stands in place, and what stands behind a pointer.
+fn short_and_long(alloc: Global) -> Result<[EventLine; 3], AllocError> {
     let read = Answer::Read { version: 10 };
-    let drained = EventAnswer::Drained { steps: 50 };
-    let spent = EventAnswer::TurnsSpent { turns: 99 };
     Ok([
         answered(alloc, ScheduleLine::Begin { client: 1 }, read)?,
         answered(alloc, ScheduleLine::Commit { client: 1 }, tried(alloc, 0)?)?,
         answered(alloc, ScheduleLine::Commit { client: 2 }, tried(alloc, 1)?)?,
+    ])
+}
+
+// Lines of drains.
+fn drains(alloc: Global) -> Result<[EventLine; 2], AllocError> {
+    let drained = EventAnswer::Drained { steps: 50 };
+    let spent = EventAnswer::TurnsSpent { turns: 99 };
+    Ok([
         told(alloc, ScheduleLine::Drain, None, drained)?,
         told(alloc, ScheduleLine::Drain, None, spent)?,
     ])
@@ -169,9 +181,9 @@ const SHORT_AND_LONG: &[u8] = b"begin 1 -> read 10\n\
 
 #[test]
 fn replies(rt: HostRuntime) -> Result<(), Fail> {
-    let events = short_and_long(rt.alloc())?;
     let mut out = Blob::new(rt.alloc());
-    put_events(rt.alloc(), &mut out, &events)?;
+    put_events(rt.alloc(), &mut out, &short_and_long(rt.alloc())?)?;
+    put_events(rt.alloc(), &mut out, &drains(rt.alloc())?)?;
     assert_eq!(rt; out.as_slice(), SHORT_AND_LONG);
     Ok(())
 }
