@@ -7,3 +7,5 @@ pub mod Waking
 pub mod Keeping
 pub mod Totals
 pub mod Weighing
+pub mod Standing
+pub mod Holders

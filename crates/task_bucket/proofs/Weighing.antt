@@ -2,7 +2,7 @@
 use Rattle.std.proofs.Common.{◌≡◌, ℕ, ◌+◌, ◌≤◌, Bool, true, false, cond, not, ◌||◌, ltb, leb, eqb, List, [], ◌∷◌, map, Option, Some, None, refl, sym, ap, subst, ◌∙◌, arith, inl, inr}
 use Rattle.std.specs.List.{find}
 use Rattle.std.specs.Option.{option_map, option_or, is_some}
-use Rattle.std.proofs.lemmas.Bool.{and_parts, eqb-true, eq-eqb, ne_eqb, le-leb, cases_lt}
+use Rattle.std.proofs.lemmas.Bool.{and_parts, eqb-true, eq-eqb, ne_eqb, le-leb, leb-true, cases_lt}
 use Rattle.fb_bytes.specs.Options.{IsIn}
 use Rattle.task_kinds.specs.Tasks.{SeenTask}
 use Rattle.task_kinds.specs.Works.{Work, number_in, number_of, work_of}
@@ -53,7 +53,7 @@ returned_to_weighs : (f : ℕ → SeenTask → ℕ) (now : ℕ) (slots : List Sl
 returned_to_weighs f now [] leased = let h = due_counts f now leased in omega arith
 returned_to_weighs f now (s ∷ ss) leased = refl
 
-returned_weighs : (f : ℕ → SeenTask → ℕ) (now : ℕ) (lists : Lists) → weigh f (returned now lists) ≡ weigh f lists
+pub returned_weighs : (f : ℕ → SeenTask → ℕ) (now : ℕ) (lists : Lists) → weigh f (returned now lists) ≡ weigh f lists
 returned_weighs f now lists = returned_to_weighs f now lists.available lists.leased
 
 -- sums that are no greater keep that each uid stands once at most
@@ -66,7 +66,7 @@ once_same old new is once uid = let a = is uid in let b = once uid in omega arit
 slots_once : (lists : Lists) → HasUidsOnce lists → (uid : ℕ) → sum_of (one_for (slot_with uid)) lists.available ≤ 1
 slots_once lists once uid = let h = once uid in omega arith
 
-leases_once : (lists : Lists) → HasUidsOnce lists → (uid : ℕ) → sum_of (one_for (lease_with uid)) lists.leased ≤ 1
+pub leases_once : (lists : Lists) → HasUidsOnce lists → (uid : ℕ) → sum_of (one_for (lease_with uid)) lists.leased ≤ 1
 leases_once lists once uid = let h = once uid in omega arith
 
 leased_out_weighs : (f : ℕ → SeenTask → ℕ) (until : ℕ) (slot : Slot) (lists : Lists) → HasUidsOnce lists → IsIn slot lists.available → weigh f (leased_out until slot lists) ≡ weigh f lists
@@ -82,7 +82,7 @@ with_chosen_weighs : (f : ℕ → SeenTask → ℕ) (until : ℕ) (o : Option Sl
 with_chosen_weighs f until None old new i once same = refl
 with_chosen_weighs f until (Some slot) old new i once same = leased_out_weighs f until slot new once (i slot refl) ∙ same
 
-returned_once : (now : ℕ) (lists : Lists) → HasUidsOnce lists → HasUidsOnce (returned now lists)
+pub returned_once : (now : ℕ) (lists : Lists) → HasUidsOnce lists → HasUidsOnce (returned now lists)
 returned_once now lists once = once_same lists (returned now lists) (λ uid. returned_weighs (is_uid uid) now lists) once
 
 claim_weighs : (f : ℕ → SeenTask → ℕ) (now length pick : ℕ) (lists : Lists) → HasUidsOnce lists → weigh f (after_claim now length pick lists) ≡ weigh f lists
@@ -243,10 +243,10 @@ added_once lists new uid task adds fresh once u = go (eqb uid u) refl (adds u) (
     go true is e le = let none = subst (λ (v : ℕ). weigh (is_uid v) lists ≡ 0) (eqb-true uid u is) zero in omega arith
     go false is e le = omega arith
 
-finish_less : (lease : Lease) (lists : Lists) (uid : ℕ) → weigh (is_uid uid) (after_finish lease lists) ≤ weigh (is_uid uid) lists
+pub finish_less : (lease : Lease) (lists : Lists) (uid : ℕ) → weigh (is_uid uid) (after_finish lease lists) ≤ weigh (is_uid uid) lists
 finish_less lease lists uid = let a = filter_less (is_lease lease.until lease.uid) (lease_counts (is_uid uid)) lists.leased in omega arith
 
-remove_less : (uid : ℕ) (lists : Lists) (u : ℕ) → weigh (is_uid u) (without_uid uid lists) ≤ weigh (is_uid u) lists
+pub remove_less : (uid : ℕ) (lists : Lists) (u : ℕ) → weigh (is_uid u) (without_uid uid lists) ≤ weigh (is_uid u) lists
 remove_less uid lists u = let h = remove_weighs (is_uid u) uid lists in omega arith
 
 keeps_once : (lists : Lists) → HasUidsOnce lists → KeepsUidsOnce lists
@@ -304,21 +304,21 @@ lease_stands lease lists once i =
     ap (λ (o : Option Slot). option_or (option_map (λ s. s.task) o) (lease_task lease.uid lists.leased)) (none_found (slot_with lease.uid) lists.available none)
     ∙ ap (option_map (λ l. l.task)) (in_found (lease_with lease.uid) lease lists.leased own (leases_once lists once lease.uid) i)
 
--- a task that went back was leased
-abbrev WasLeased : Slot → List Lease → Type 0
-WasLeased slot ls = (l : Lease) × IsIn l ls × (slot_of l ≡ slot)
+-- a task that went back was leased, and its time was over
+abbrev pub WasLeased : ℕ → Slot → List Lease → Type 0
+WasLeased now slot ls = (l : Lease) × IsIn l ls × (slot_of l ≡ slot) × (l.until ≤ now)
 
-due_in : (now : ℕ) (slot : Slot) (ls : List Lease) → IsIn slot (due now ls) → WasLeased slot ls
+pub due_in : (now : ℕ) (slot : Slot) (ls : List Lease) → IsIn slot (due now ls) → WasLeased now slot ls
 due_in now slot [] i = absurd i
-due_in now slot (l ∷ ls) i = go (leb l.until now) (due_in now slot ls) i
+due_in now slot (l ∷ ls) i = go (leb l.until now) refl (due_in now slot ls) i
   where
-    more : WasLeased slot ls → WasLeased slot (l ∷ ls)
-    more h = (h.0, inr h.1, h.2)
+    more : WasLeased now slot ls → WasLeased now slot (l ∷ ls)
+    more h = (h.0, inr h.1, h.2, h.3)
 
-    go : (b : Bool) → (IsIn slot (due now ls) → WasLeased slot ls) → IsIn slot (cond b (slot_of l ∷ due now ls) (due now ls)) → WasLeased slot (l ∷ ls)
-    go true ih (inl e) = (l, inl refl, sym e)
-    go true ih (inr j) = more (ih j)
-    go false ih j = more (ih j)
+    go : (b : Bool) → leb l.until now ≡ b → (IsIn slot (due now ls) → WasLeased now slot ls) → IsIn slot (cond b (slot_of l ∷ due now ls) (due now ls)) → WasLeased now slot (l ∷ ls)
+    go true is ih (inl e) = (l, inl refl, sym e, leb-true l.until now is)
+    go true is ih (inr j) = more (ih j)
+    go false is ih j = more (ih j)
 
 back_stands : (now : ℕ) (slot : Slot) (lists : Lists) (slots : List Slot) → lists.available ≡ slots → HasUidsOnce lists → IsIn slot (returned_to now slots lists.leased).available → task_at slot.uid lists ≡ Some slot.task
 back_stands now slot lists [] e once i =
@@ -335,22 +335,22 @@ claimed_stands now length pick lease lists once e = go (chosen now pick lists) r
         let same : lease_of (now + length) slot ≡ lease = cc in
         subst (λ (l : Lease). task_at l.uid lists ≡ Some l.task) same (back_stands now slot lists lists.available refl once (picked_in pick (returned now lists).available slot is))
 
--- an extended lease stands in the list
-abbrev Stood : ℕ → Lease → List Lease → Type 0
-Stood uid new ls = (l : Lease) × IsIn l ls × (l.uid ≡ uid) × (l.task ≡ new.task)
+-- an extended lease stood in the list
+abbrev pub Stood : ℕ → ℕ → ℕ → Lease → List Lease → Type 0
+Stood until uid next new ls = (l : Lease) × IsIn l ls × (is_lease until uid l ≡ true) × (retimed next l ≡ new)
 
-extended_stood : (until uid next : ℕ) (new : Lease) (ls : List Lease) → extended_in until uid next ls ≡ Some new → Stood uid new ls
+pub extended_stood : (until uid next : ℕ) (new : Lease) (ls : List Lease) → extended_in until uid next ls ≡ Some new → Stood until uid next new ls
 extended_stood until uid next new [] e = absurd cc
 extended_stood until uid next new (l ∷ ls) e = go (is_lease until uid l) refl e (extended_stood until uid next new ls)
   where
-    go : (b : Bool) → is_lease until uid l ≡ b → cond b (Some (retimed next l)) (extended_in until uid next ls) ≡ Some new → (extended_in until uid next ls ≡ Some new → Stood uid new ls) → Stood uid new (l ∷ ls)
-    go true is e ih = let same : retimed next l ≡ new = cc in (l, inl refl, eqb-true l.uid uid (and_parts _ _ is).1, ap (λ (x : Lease). x.task) same)
+    go : (b : Bool) → is_lease until uid l ≡ b → cond b (Some (retimed next l)) (extended_in until uid next ls) ≡ Some new → (extended_in until uid next ls ≡ Some new → Stood until uid next new ls) → Stood until uid next new (l ∷ ls)
+    go true is e ih = let same : retimed next l ≡ new = cc in (l, inl refl, is, same)
     go false is e ih = let h = ih e in (h.0, inr h.1, h.2, h.3)
 
 extended_stands : (lease new : Lease) (next : ℕ) (lists : Lists) → HasUidsOnce lists → extended lease next lists ≡ Some new → task_at lease.uid lists ≡ Some new.task
 extended_stands lease new next lists once e =
     let h = extended_stood lease.until lease.uid next new lists.leased e in
-    ap (λ (uid : ℕ). task_at uid lists) (sym h.2) ∙ lease_stands h.0 lists once h.1 ∙ ap Some h.3
+    ap (λ (uid : ℕ). task_at uid lists) (sym (eqb-true h.0.uid lease.uid (and_parts _ _ h.2).1)) ∙ lease_stands h.0 lists once h.1 ∙ ap (λ (l : Lease). Some l.task) h.3
 
 pub all_laws : SumsLaw
 all_laws = record {

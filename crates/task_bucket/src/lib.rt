@@ -9,7 +9,7 @@ mod lease;
 mod list_bucket;
 
 pub use bucket::Bucket;
-pub use laws::sums_law;
+pub use laws::{holders_law, sums_law};
 pub use lease::{Lease, LeaseFault};
 pub use list_bucket::ListBucket;
 
