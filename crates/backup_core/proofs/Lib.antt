@@ -7,6 +7,13 @@ pub mod Rows
 pub mod Closes
 pub mod Orders
 pub mod Takes
+pub mod FileReads
+pub mod Taken
+pub mod ByParams
+pub mod Adds
+pub mod Waiting
+pub mod Newest
+pub mod Shorts
 pub mod Calm
 pub mod Hands
 pub mod Worked

@@ -10,7 +10,7 @@ use Rattle.fb_bytes.proofs.Order.{not_both, same_both}
 use Rattle.file_names.specs.declared.Name.TheVariants.{Range}
 use Rattle.mutations.specs.Histories.{logged}
 use Rattle.task_kinds.specs.Works.{BackupWork, BackupStart, BackupRange, BackupManifest, BackupLog}
-use Rattle.snapshot_plan.specs.Noted.{pieces_of, fault_of, manifest_of}
+use Rattle.snapshot_plan.specs.Noted.{pieces_of, fault_of, gap, manifest_of}
 use Rattle.snapshot_plan.specs.declared.Noted.{Noted}
 use Rattle.snapshot_plan.proofs.Manifests.{manifest_law}
 use Rattle.snapshot_plan.proofs.Walking.{least_key_law}
@@ -113,13 +113,23 @@ closes_law = record { piece = piece_is; start = start_is; placed = placed_is; un
 
 -- ---- logs
 
+-- an open log task has versions, between what is erased and what is logged next
+pub open_span : (j : BackupJob) (v : View) (begin end : ℕ) → JobFacts j v → HasTask v.load (BackupLog begin end) → (j.erased ≤ begin) × (begin < end) × (end ≤ j.next)
+open_span j v begin end h has = let w = works j v h (has any) in inside (let z = w.log.strays in let x = has (strays j.erased j.next) in omega arith)
+  where
+    inside : one_if (not (nat_le j.erased begin && nat_lt begin end && nat_le end j.next)) ≡ 0 → (j.erased ≤ begin) × (begin < end) × (end ≤ j.next)
+    inside z = ⊎_elim
+        (λ e. let x = and_parts (nat_le j.erased begin && nat_lt begin end) (nat_le end j.next) e in let y = and_parts (nat_le j.erased begin) (nat_lt begin end) x.0 in (leb-true j.erased begin y.0, ltb-true begin end y.1, leb-true end j.next x.1))
+        (λ e. absurd (let x : one_if (not (nat_le j.erased begin && nat_lt begin end && nat_le end j.next)) ≡ 1 = ap (λ b. one_if (not b)) e in omega arith))
+        (cases_Bool (nat_le j.erased begin && nat_lt begin end && nat_le end j.next))
+
 can_log_is : (j : BackupJob) (v : View) (begin end : ℕ) → JobFacts j v → HasTask v.load (BackupLog begin end) → CanLog j v.now begin end
 can_log_is j v begin end h has =
     let w = works j v h (has any) in
     let c = w.lines.logs in
     let n = has logs in
     let s = w.log.logs (omega arith) in
-    let i = inside (let z = w.log.strays in let x = has (strays j.erased j.next) in omega arith) in
+    let i = open_span j v begin end h has in
     let x = w.log.next in
     let e = i.2 in
     record {
@@ -130,12 +140,6 @@ can_log_is j v begin end h has =
       some = i.1;
       past = omega arith;
     }
-  where
-    inside : one_if (not (nat_le j.erased begin && nat_lt begin end && nat_le end j.next)) ≡ 0 → (j.erased ≤ begin) × (begin < end) × (end ≤ j.next)
-    inside z = ⊎_elim
-        (λ e. let x = and_parts (nat_le j.erased begin && nat_lt begin end) (nat_le end j.next) e in let y = and_parts (nat_le j.erased begin) (nat_lt begin end) x.0 in (leb-true j.erased begin y.0, ltb-true begin end y.1, leb-true end j.next x.1))
-        (λ e. absurd (let x : one_if (not (nat_le j.erased begin && nat_lt begin end && nat_le end j.next)) ≡ 1 = ap (λ b. one_if (not b)) e in omega arith))
-        (cases_Bool (nat_le j.erased begin && nat_lt begin end && nat_le end j.next))
 
 log_is : (source : Source) (folder : Folder) (j : BackupJob) (v : View) (ticket begin end : ℕ) → FileFacts j source folder → source.now ≡ v.now → JobFacts j v → HasTask v.load (BackupLog begin end) → KeptFacts source folder (BackupLog begin end) (kept_as ticket (LogPart begin end (logged source.history j.terms.ranges begin end)))
 log_is source folder j v ticket begin end f now h has =
@@ -159,10 +163,10 @@ range_is source folder j v ticket snapshot body h sums has state free =
 
 -- ---- manifests
 
-module _ (source : Source) (folder : Folder) (j : BackupJob) (v : View) (snapshot : ℕ) (f : FileFacts j source folder) (h : JobFacts j v) (sums : IsLoad v.load) (has : HasTask v.load (BackupManifest snapshot)) where
+module _ (j : BackupJob) (v : View) (h : JobFacts j v) (sums : IsLoad v.load) (snapshot : ℕ) (has : HasTask v.load (BackupManifest snapshot)) where
   -- no piece is open, so the noted ones tile the ranges
-  tiles : (key : Bytes) → in_ranges (pieces_of j.noted) key ≡ in_ranges j.terms.ranges key
-  tiles key =
+  noted_tile : (key : Bytes) → in_ranges (pieces_of j.noted) key ≡ in_ranges j.terms.ranges key
+  noted_tile key =
       let w = works j v h (has any) in
       let a = w.lines.snapshots in
       let m = has manifests in
@@ -170,20 +174,28 @@ module _ (source : Source) (folder : Folder) (j : BackupJob) (v : View) (snapsho
       let t = w.lines.tiles (omega arith) key in
       held_is (pieces_of j.noted) key (in_ranges j.terms.ranges key) (omega arith)
 
-  tiling : AreTiling source.ranges j.noted
-  tiling key = tiles key ∙ ap (λ r. in_ranges r key) (sym f.ranges)
+  pub noted_some : j.noted ≢ []
+  noted_some e = let k = some_key j.terms.ranges h.some h.separate in not_both (noted_tile k.0 ∙ k.1) (ap (λ ns. in_ranges (pieces_of ns) k.0) e)
 
-  noted_some : j.noted ≢ []
-  noted_some e = let k = some_key j.terms.ranges h.some h.separate in not_both (tiles k.0 ∙ k.1) (ap (λ ns. in_ranges (pieces_of ns) k.0) e)
+  pub manifest_writable : IsWritable (manifest_of j.noted)
+  manifest_writable = whole_law j.noted noted_some h.noted.names h.noted.distinct
+
+  pub no_gap : gap (map_of j) ≡ None
+  no_gap = (least_key_law.tiled (map_of j) (record { ranges = h.separate; pieces = h.noted.pieces })).1 (λ key i. noted_tile key ∙ i)
+
+module _ (source : Source) (folder : Folder) (j : BackupJob) (v : View) (snapshot : ℕ) (f : FileFacts j source folder) (h : JobFacts j v) (sums : IsLoad v.load) (has : HasTask v.load (BackupManifest snapshot)) where
+  tiling : AreTiling source.ranges j.noted
+  tiling key = noted_tile j v h sums snapshot has key ∙ ap (λ r. in_ranges r key) (sym f.ranges)
 
   manifest_honest : (ticket : ℕ) → folder.unreliable ≤ (manifest_of j.noted).begin → IsHonestManifest source folder.ranges (manifest_file ticket (manifest_of j.noted))
   manifest_honest ticket u =
-      honest_manifest_law source folder.ranges j.noted noted_some
-      (all_in (NotedThere folder.ranges) j.noted (λ n i. each_in (IsThere folder) j.noted n f.there i (let b = (manifest_law.begin j.noted noted_some).least n i in omega arith)))
+      let some = noted_some j v h sums snapshot has in
+      honest_manifest_law source folder.ranges j.noted some
+      (all_in (NotedThere folder.ranges) j.noted (λ n i. each_in (IsThere folder) j.noted n f.there i (let b = (manifest_law.begin j.noted some).least n i in omega arith)))
       h.noted.pieces tiling (manifest_file ticket (manifest_of j.noted)) (record { begin = refl; end = refl; content = refl })
 
   manifest_is : (ticket : ℕ) → IsWritable (manifest_of j.noted) × KeptFacts source folder (BackupManifest snapshot) (kept_as ticket (ManifestPart (manifest_of j.noted)))
-  manifest_is ticket = (whole_law j.noted noted_some h.noted.names h.noted.distinct, record { part = record { snapshot = snapshot; of_task = refl; honest = manifest_honest ticket } })
+  manifest_is ticket = (manifest_writable j v h sums snapshot has, record { part = record { snapshot = snapshot; of_task = refl; honest = manifest_honest ticket } })
 
 pub takes_law : TakesLaw
 takes_law = record {

@@ -6,4 +6,10 @@ pub mod Rows
 pub mod Orders
 pub mod Facts
 pub mod Kept
+pub mod Made
+pub mod Taken
+pub mod Added
+pub mod Futures
+pub mod Closed
+pub mod Limits
 pub mod Laws

@@ -7,6 +7,8 @@ ghost use Rattle.snapshot_plan.specs.Noted.{fault_of, gap, manifest_of, most_byt
 ghost use Rattle.snapshot_plan.specs.Pieces.{ArePieces};
 ghost use Rattle.backup_core.specs.Backups as spec;
 
+mod steps;
+
 use crate::Mode;
 use fb_bytes::{KeyRange, Ranges};
 use manifests::Manifest;

@@ -2,9 +2,15 @@
 //! when it runs.
 
 ghost use Rattle.backup_core.specs.Laws.{BucketLaw, RowsLaw, RowFilesLaw, ClosesLaw, HandLaw, OrdersLaw, TakesLaw, TasksLaw, KeptLaw, CalmLaw};
+ghost use Rattle.backup_core.specs.Futures.{NewestLaw, WaitingLaw};
+ghost use Rattle.backup_core.specs.Limits.{LimitLaw};
+ghost use Rattle.backup_core.specs.Made.{MadeReadsLaw};
 ghost use Rattle.backup_core.specs.Manifests.{NotingLaw, UndoLaw, TilingLaw, HonestManifestLaw};
+ghost use Rattle.backup_core.specs.Taken.{MadeLaw};
 
+use container_view::contents_law;
 use task_bucket::sums_law;
+use task_futures::futures_law;
 
 /// Noted pieces stay in order, inside the ranges and under names of their own as one more is noted.
 pub fn noting_law()
@@ -63,6 +69,37 @@ pub fn orders_law()
 pub fn takes_law()
     ensures { TakesLaw }
 {}
+
+/// Each open piece has ends within the limit on keys, and the plan of a snapshot has such pieces.
+pub fn limit_law()
+    ensures { LimitLaw }
+{}
+
+/// A file can be made of what a take of an open task keeps, and it has a name.
+pub fn made_law()
+    ensures { MadeLaw }
+{}
+
+/// A file that was made of a part is read as the file of that part.
+pub fn made_reads_law()
+    ensures { MadeReadsLaw }
+{
+    contents_law();
+}
+
+/// The newest future is taken out again without a trace.
+pub fn newest_law()
+    ensures { NewestLaw }
+{}
+
+/// As a task is closed that waits for a future, what comes after the last is due exactly where no
+/// other is open, and the others wait on.
+pub fn waiting_law()
+    ensures { WaitingLaw }
+{
+    sums_law();
+    futures_law();
+}
 
 /// Each backup that goes on and isn't made by hand has a task.
 pub fn tasks_law()
