@@ -1,5 +1,5 @@
 -- One more entry.
-use Rattle.std.specs.Prelude.{◌≡◌, ℕ, ◌<◌, List, [], ◌∷◌, ◌++◌}
+use Rattle.std.specs.Prelude.{ℕ, ◌<◌, List, [], ◌∷◌, ◌++◌}
 use Rattle.std.specs.List.{AllByRecursion}
 use Rattle.mutations.specs.declared.Entry.{Entry}
 use Rattle.mutations.specs.declared.Batch.{Batch}

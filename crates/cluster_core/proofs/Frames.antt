@@ -11,16 +11,19 @@ use Rattle.container_view.specs.Files.{whole_name}
 use Rattle.container_view.specs.Honest.{IsHonestFile, listed_by}
 use Rattle.workload_text.specs.declared.Workload.{Workload}
 use Rattle.database.specs.Commits.{most_version}
+use Rattle.task_bucket.specs.Lists.{Lists}
 use Rattle.backup_core.specs.Backups.{Terms, BackupJob}
+use Rattle.cluster_core.specs.Agents.{Memory}
 use Rattle.cluster_core.specs.Jobs.{Job, terms_of}
 use Rattle.cluster_core.specs.declared.job.Job.TheVariants as types
 use Rattle.cluster_core.specs.Backups.{Backup}
 use Rattle.cluster_core.specs.State.{State, history_on, with_job, with_put}
 use Rattle.cluster_core.specs.commands.Shared.{gone_on}
-use Rattle.cluster_core.specs.Sound.{IsDrawn, BackupSound, IsStored, JobSound, JobStored, AreApart, AreContainersSound, Sound, view_of, source_of}
+use Rattle.cluster_core.specs.Sound.{IsDrawn, BackupSound, IsStored, JobSound, JobStored, AreApart, AgentsSound, AreContainersSound, Sound, view_of, source_of}
 use Rattle.cluster_core.proofs.Lists.{get_set_same, get_set_other, same_or_other}
 use Rattle.cluster_core.proofs.All.{each_set}
 use Rattle.cluster_core.proofs.Known.{Known}
+use Rattle.cluster_core.proofs.Holding.{agents_among, fits_set}
 use Rattle.cluster_core.proofs.Grown.{each_sound, each_kept, job_grown, stored_grown, waits}
 use Rattle.cluster_core.proofs.Waiting.{job_goes_on, clients_wait}
 use Rattle.cluster_core.proofs.Puts.{IsFresh, stored_put, stored_elsewhere, fresh_is_spare}
@@ -28,7 +31,17 @@ use Rattle.cluster_core.proofs.Puts.{IsFresh, stored_put, stored_elsewhere, fres
 -- ---- the operator goes on
 
 pub sound_gone : (p : Workload) (w : State) → Sound p w → Sound p (gone_on w)
-sound_gone p w h = record { clock = h.clock; databases = h.databases; clients = h.clients; jobs = h.jobs; containers = h.containers }
+sound_gone p w h = record { clock = h.clock; databases = h.databases; clients = h.clients; jobs = h.jobs; agents = h.agents; containers = h.containers }
+
+-- ---- the bucket and the agents change
+
+pub sound_held : (p : Workload) (w : State) (bucket : Lists) (agents : List (Option Memory)) → AgentsSound p.settings.agents w.time w.uids bucket agents w.jobs → Sound p w → Sound p (record w { bucket = bucket; agents = agents })
+sound_held p w bucket agents a h = record { clock = h.clock; databases = h.databases; clients = h.clients; jobs = h.jobs; agents = a; containers = h.containers }
+
+-- ---- agents are paused, or claim again
+
+pub sound_paused : (p : Workload) (w : State) (paused : Bool) → Sound p w → Sound p (record w { paused = paused })
+sound_paused p w paused h = record { clock = h.clock; databases = h.databases; clients = h.clients; jobs = h.jobs; agents = h.agents; containers = h.containers }
 
 -- ---- a ticket is drawn
 
@@ -42,6 +55,7 @@ sound_drawn k p w d h = record {
     apart = h.jobs.apart;
     numbered = h.jobs.numbered;
   };
+  agents = h.agents;
   containers = λ files e.
       let s = h.containers files e in
       record { ordered = s.ordered; each = each_kept p.settings.block w.time (w.tickets + 1) w.src w.dst files w.jobs (λ place job at. stored_grown k p.settings.block w.time w.time w.tickets (w.tickets + 1) (history_on job.side w) (history_on job.side w) files job (waits p.settings.block w.time w.time (history_on job.side w) job (same w.time)) (more w.tickets) (s.each place (types.Backup job) at)) };
@@ -94,6 +108,7 @@ sound_filed k p w place job name bytes h at fresh good = record {
   databases = h.databases;
   clients = h.clients;
   jobs = h.jobs;
+  agents = h.agents;
   containers = λ files e.
       let b = file_put (whole_name job.container name) bytes w.files files e in
       let s = h.containers b.0 b.1 in
@@ -129,8 +144,8 @@ apart_set jobs place old new at c h a b first second e f s =
     let y = before_set jobs place old new at c b second f in
     h a b x.0 y.0 x.1 y.1 (ap (λ (z : Bytes). is_same z y.0.container) (sym x.2) ∙ ap (is_same first.container) (sym y.2) ∙ s)
 
-pub sound_changed : (p : Workload) (w : State) (place : ℕ) (old : Backup) (hand : BackupJob) → Sound p w → slice_get w.jobs place ≡ Some (types.Backup old) → hand.terms ≡ old.job.terms → BackupSound p.settings.block w.time w.tickets (history_on old.side w) (record old { job = hand }) → ((files : List File) → w.files ≡ Some files → IsStored p.settings.block w.time w.tickets (history_on old.side w) files (record old { job = hand })) → Sound p (with_job place (types.Backup (record old { job = hand })) w)
-sound_changed p w place old hand h at t j s = record {
+pub sound_changed : (k : Known) (p : Workload) (w : State) (place : ℕ) (old : Backup) (hand : BackupJob) → Sound p w → slice_get w.jobs place ≡ Some (types.Backup old) → hand.terms ≡ old.job.terms → BackupSound p.settings.block w.time w.tickets (history_on old.side w) (record old { job = hand }) → ((files : List File) → w.files ≡ Some files → IsStored p.settings.block w.time w.tickets (history_on old.side w) files (record old { job = hand })) → Sound p (with_job place (types.Backup (record old { job = hand })) w)
+sound_changed k p w place old hand h at t j s = record {
   clock = h.clock;
   databases = h.databases;
   clients = clients_wait p.settings p.clients w.time w.time w.jobs (slice_set w.jobs place (types.Backup (record old { job = hand }))) w.src w.dst w.clients (let s : w.time ≤ w.time = omega arith in s) (job_goes_on w.jobs place old hand at t) h.clients;
@@ -139,6 +154,7 @@ sound_changed p w place old hand h at t j s = record {
     apart = apart_set w.jobs place old (record old { job = hand }) at refl h.jobs.apart;
     numbered = each_set (λ m x. (terms_of x).number ≡ 1 + m) w.jobs place (types.Backup old) (types.Backup (record old { job = hand })) at (ap (λ (x : Terms). x.number) t ∙ h.jobs.numbered place (types.Backup old) at) (λ m x d e. h.jobs.numbered m x e);
   };
+  agents = agents_among k p.settings.agents w.time w.uids w.bucket w.agents w.jobs (slice_set w.jobs place (types.Backup (record old { job = hand }))) (fits_set w.jobs place old hand at t) h.agents;
   containers = λ files e.
       let f = h.containers files e in
       record { ordered = f.ordered; each = each_set (λ m x. JobStored p.settings.block w.time w.tickets w.src w.dst files x) w.jobs place (types.Backup old) (types.Backup (record old { job = hand })) at (s files e) (λ m x d g. f.each m x g) };

@@ -28,6 +28,8 @@ use Rattle.snapshot_plan.specs.Laws.{PieceLaw}
 use Rattle.snapshot_plan.specs.Listing.{AreDistinct}
 use Rattle.workload_text.specs.Commands.{is_container_name}
 use Rattle.database.specs.Laws.{DumpLaw, CommitLaw}
+use Rattle.task_bucket.specs.HoldersLaws.{HoldersLaw}
+use Rattle.task_bucket.specs.Laws.{SumsLaw}
 use Rattle.cluster_core.specs.Sound.{IsDrawn, unreliable_in}
 
 -- what puts and look-ups of files do
@@ -65,3 +67,5 @@ pub record Known : Type 0 where
   pub piece : PieceLaw
   pub logged : LoggedLaw
   pub manifests : ManifestsKnown
+  pub sums : SumsLaw
+  pub holders : HoldersLaw

@@ -20,6 +20,8 @@ use Rattle.mutations.specs.declared.Entry.{Entry}
 use Rattle.workload_text.specs.declared.Settings.{Settings}
 use Rattle.cluster_core.specs.Sound.{IsOrdered, other_side, IsClientSound, ground_of}
 use Rattle.cluster_core.specs.Laws.{OpeningLaw}
+use Rattle.cluster_core.proofs.Holding.{agents_opening}
+use Rattle.cluster_core.proofs.Relied.{known}
 
 -- the client at a place is new, and numbered by its place
 record IsNew (tries number : ℕ) (client : ClientState) : Type 0 where
@@ -84,5 +86,6 @@ opening_is_sound workload files ordered = record {
   databases = record { histories = ordered_none; within = within_none workload.settings.block };
   clients = record { scripts_are = scripts_new workload.settings.tries workload.clients; each = each_new workload };
   jobs = record { each = λ place job e. no_job place job e; apart = λ a b first second e f s. no_job a (types.Backup first) e; numbered = λ place job e. no_job place job e };
+  agents = agents_opening known workload.settings.agents;
   containers = λ told e. record { ordered = ordered told e; each = λ place job f. no_job place job f };
 }

@@ -1,8 +1,7 @@
 -- The laws of other crates, as the machine's proofs use them.
-use Rattle.std.specs.Prelude.{◌≡◌, ◌≢◌, ℕ, ◌<◌, ◌≤◌, Bool, true, false, not, ◌&&◌, ◌==◌, List, [], ◌∷◌, length, nat_le, refl}
-use Rattle.std.specs.List.{AllByRecursion, list_all}
+use Rattle.std.specs.Prelude.{◌≡◌, ◌≢◌, ℕ, ◌<◌, ◌≤◌, List, [], ◌∷◌, length, refl}
+use Rattle.std.specs.List.{AllByRecursion}
 use Rattle.std.proofs.Common.{ap, sym, ◌∙◌, arith, subst, option_map, inl, inr, Option, Some, None}
-use Rattle.std.proofs.lemmas.Bool.{and_parts, and_from, eqb-true}
 use Rattle.fb_bytes.specs.Bytes.{Bytes}
 use Rattle.fb_bytes.specs.Options.{IsIn}
 use Rattle.file_names.proofs.Names.{spelled_name}
@@ -13,7 +12,7 @@ use Rattle.range_files.proofs.Written as ranges
 use Rattle.log_files.proofs.Written as logs
 use Rattle.mutations.proofs.Logs.{logged_law}
 use Rattle.container_view.specs.Contents.{ContentsLaw, file_grammars, range_content}
-use Rattle.container_view.specs.Files.{has_no_slash, whole_name, inside, end_of, unreliable_of, folder_in}
+use Rattle.container_view.specs.Files.{whole_name, inside, end_of, unreliable_of, folder_in}
 use Rattle.container_view.specs.Folder.{Folder}
 use Rattle.container_view.proofs.Honest.{honest_store_law}
 use Rattle.container_view.proofs.Lookups.{file_law}
@@ -29,7 +28,8 @@ use Rattle.snapshot_plan.proofs.Manifests.{manifest_law, whole_law}
 use Rattle.database.proofs.Dumping as dumping
 use Rattle.database.proofs.Committing as committing
 use Rattle.backup_core.proofs.Manifests.{honest_manifest_law}
-use Rattle.workload_text.specs.Commands.{is_name_byte, begins_well, is_container_name}
+use Rattle.task_bucket.proofs.Holders.{holders_laws}
+use Rattle.task_bucket.proofs.Weighing.{all_laws}
 use Rattle.cluster_core.specs.Sound.{IsDrawn, unreliable_in}
 use Rattle.cluster_core.proofs.Slashes.{no_slash}
 use Rattle.cluster_core.proofs.Known.{FilesKnown, ManifestsKnown, Known}
@@ -123,4 +123,6 @@ known = record {
   piece = piece_law;
   logged = logged_law;
   manifests = manifests_known;
+  sums = all_laws;
+  holders = holders_laws;
 }

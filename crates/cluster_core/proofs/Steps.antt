@@ -7,9 +7,10 @@ use Rattle.workload_text.specs.declared.Command.TheVariants as commands
 use Rattle.workload_text.specs.declared.Workload.{Workload}
 use Rattle.workload_text.specs.Commands.{IsCommand}
 use Rattle.cluster_core.specs.declared.event.Event.{Event}
-use Rattle.cluster_core.specs.declared.event.Event.TheVariants.{Begin, Commit, Tick}
+use Rattle.cluster_core.specs.declared.event.Event.TheVariants.{Begin, Commit, Tick, Claim, Extend, Die}
 use Rattle.cluster_core.specs.declared.event.Event.TheVariants as events
 use Rattle.cluster_core.specs.declared.event.StepFault.TheVariants.{NoMemory}
+use Rattle.cluster_core.specs.Agents.{memory_at}
 use Rattle.cluster_core.specs.Jobs.{newest, on_backup}
 use Rattle.cluster_core.specs.State.{State, client_at}
 use Rattle.cluster_core.specs.Moves.{Luck, is_starved, Moved, moved}
@@ -28,9 +29,13 @@ use Rattle.cluster_core.proofs.commands.Cut.{cut_keeps}
 use Rattle.cluster_core.proofs.commands.Seal.{seal_keeps}
 use Rattle.cluster_core.proofs.commands.Abort.{abort_keeps}
 use Rattle.cluster_core.proofs.commands.Open.{open_keeps}
+use Rattle.cluster_core.proofs.commands.Pause.{pause_keeps}
 use Rattle.cluster_core.proofs.events.Begin.{begin_of_keeps}
 use Rattle.cluster_core.proofs.events.Commit.{commit_keeps}
 use Rattle.cluster_core.proofs.events.Tick.{tick_keeps}
+use Rattle.cluster_core.proofs.events.Claim.{claim_keeps}
+use Rattle.cluster_core.proofs.events.Extend.{extend_keeps}
+use Rattle.cluster_core.proofs.events.Die.{die_keeps}
 use Rattle.cluster_core.proofs.commands.Jobs.{job_keeps, backup_keeps}
 
 command_keeps : (k : Known) (p : Workload) (w : State) (luck : Luck) (command : Command) → IsCommand p.settings.block command → Sound p w → Sound p (command_gives p.settings w luck command).state
@@ -38,8 +43,10 @@ command_keeps k p w luck (commands.Open tag side container ranges) c h = open_ke
 command_keeps k p w luck (commands.Dump tag piece) c h = job_keeps p w tag (on_backup (dump_piece p.settings w piece luck)) (newest tag w.jobs) refl h (λ found at r. backup_keeps p w (dump_piece p.settings w piece luck) found at r (λ x a s. dump_keeps k p w piece luck x c.1 h a))
 command_keeps k p w luck (commands.Cut tag) c h = job_keeps p w tag (on_backup (cut_log p.settings w luck)) (newest tag w.jobs) refl h (λ found at r. backup_keeps p w (cut_log p.settings w luck) found at r (λ x a s. cut_keeps k p w luck x h a s))
 command_keeps k p w luck (commands.Seal tag) c h = job_keeps p w tag (on_backup (seal_job w luck)) (newest tag w.jobs) refl h (λ found at r. backup_keeps p w (seal_job w luck) found at r (λ x a s. seal_keeps k p w luck x h a))
-command_keeps k p w luck (commands.Abort tag) c h = job_keeps p w tag (abort_job w) (newest tag w.jobs) refl h (λ found at r. abort_keeps p w found h at)
+command_keeps k p w luck (commands.Abort tag) c h = job_keeps p w tag (abort_job w) (newest tag w.jobs) refl h (λ found at r. abort_keeps k p w found h at)
 command_keeps k p w luck (commands.Status tag) c h = sound_gone p w h
+command_keeps k p w luck commands.Pause c h = pause_keeps p w true h
+command_keeps k p w luck commands.Resume c h = pause_keeps p w false h
 command_keeps k p w luck command c h = h
 
 all_get : {X : Type 0} (P : X → Type 0) (xs : List X) (n : ℕ) (x : X) → AllByRecursion P xs → slice_get xs n ≡ Some x → P x
@@ -56,6 +63,9 @@ pub event_keeps : (k : Known) (p : Workload) (w : State) (luck : Luck) (event : 
 event_keeps k p w luck (Begin n) h = begin_of_keeps p w n (client_at w.clients n) refl h
 event_keeps k p w luck (Commit n) h = commit_keeps k p w n (client_at w.clients n) refl h
 event_keeps k p w luck (Tick n) h = tick_keeps k p w n h
+event_keeps k p w luck (Claim agent pick) h = claim_keeps k p w agent pick h
+event_keeps k p w luck (Extend agent) h = extend_keeps k p w agent (memory_at w.agents agent) refl h
+event_keeps k p w luck (Die agent) h = die_keeps k p w agent h
 event_keeps k p w luck events.Command h = operator_keeps k p w luck (slice_get p.operator w.place) refl h
 
 pub luck_keeps : (k : Known) (p : Workload) (w : State) (event : Event) (luck : Luck) → Sound p w → Sound p (step p w event luck).state

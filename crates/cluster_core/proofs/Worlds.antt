@@ -27,9 +27,11 @@ use Rattle.cluster_core.specs.declared.event.StepFault.TheVariants.{VersionsSpen
 use Rattle.cluster_core.specs.events.Commit.{commit}
 use Rattle.cluster_core.specs.events.Tick.{tick}
 use Rattle.cluster_core.specs.Sound.{Sound}
+use Rattle.cluster_core.specs.inner.Crew.{Crew, new_crew}
 use Rattle.cluster_core.specs.inner.World.{Desk, state_of, IsWorld, begun_in, tried_in}
 use Rattle.cluster_core.proofs.Openings.{opening_is_sound}
 use Rattle.cluster_core.proofs.Relied.{known}
+use Rattle.cluster_core.proofs.commands.Pause.{pause_keeps}
 use Rattle.cluster_core.proofs.events.Begin.{begin_of_keeps}
 use Rattle.cluster_core.proofs.Steps.{event_keeps}
 use Rattle.cluster_core.proofs.events.Tick.{sound_later}
@@ -119,17 +121,18 @@ commit_leaves_world workload src dst src' dst' v v' desk files items sliced new 
     subst (λ (z : Versions). P src' dst' z) (sym f.3) (subst (λ (y : Database). P src' y v) (sym f.2) (subst (λ (x : Database). P x dst v) (sym f.1) h)))
 
 -- new parts are a world at its beginning
-pub open_world : (workload original : Workload) (clients : List ClientState) (jobs : List Job) (src dst : Database) (block : ℕ) (files : Option (List File)) → ((told : List File) → files ≡ Some told → AreFiles told) → workload ≡ original → clients ≡ map (new_client original.settings.tries) original.clients → jobs ≡ [] → src ≡ record { block = block; oldest = 0; history = []; logs = [] } → dst ≡ record { block = block; oldest = 0; history = []; logs = [] } → block ≡ original.settings.block → IsWorld workload src dst (record { now = 0; pace = workload.settings.pace }) (state_of clients src dst (record { now = 0; pace = workload.settings.pace }) (record { jobs = jobs; place = 0; tickets = 1 }) files)
-open_world workload original clients jobs src dst block files ordered w c j s d b =
+pub open_world : (workload original : Workload) (clients : List ClientState) (jobs : List Job) (crew : Crew) (src dst : Database) (block : ℕ) (files : Option (List File)) → ((told : List File) → files ≡ Some told → AreFiles told) → workload ≡ original → clients ≡ map (new_client original.settings.tries) original.clients → jobs ≡ [] → crew ≡ new_crew original.settings.agents → src ≡ record { block = block; oldest = 0; history = []; logs = [] } → dst ≡ record { block = block; oldest = 0; history = []; logs = [] } → block ≡ original.settings.block → IsWorld workload src dst (record { now = 0; pace = workload.settings.pace }) (state_of clients src dst (record { now = 0; pace = workload.settings.pace }) (record { jobs = jobs; place = 0; tickets = 1; crew = crew }) files)
+open_world workload original clients jobs crew src dst block files ordered w c j a s d b =
     let empty : Database = record { block = block; oldest = 0; history = []; logs = [] } in
     let start : Workload → Versions = λ x. record { now = 0; pace = x.settings.pace } in
-    let desk : List Job → Desk = λ js. record { jobs = js; place = 0; tickets = 1 } in
-    let base : IsWorld original empty empty (start original) (state_of (map (new_client original.settings.tries) original.clients) empty empty (start original) (desk []) files) = record { src_block = b; dst_block = b; pace = refl; src_oldest = omega arith; dst_oldest = omega arith; src_logs = refl; dst_logs = refl; sound = opening_is_sound original files ordered } in
-    subst (λ (x : Workload). IsWorld x src dst (start x) (state_of clients src dst (start x) (desk jobs) files)) (sym w)
-    (subst (λ (cs : List ClientState). IsWorld original src dst (start original) (state_of cs src dst (start original) (desk jobs) files)) (sym c)
-    (subst (λ (js : List Job). IsWorld original src dst (start original) (state_of (map (new_client original.settings.tries) original.clients) src dst (start original) (desk js) files)) (sym j)
-    (subst (λ (x : Database). IsWorld original x dst (start original) (state_of (map (new_client original.settings.tries) original.clients) x dst (start original) (desk []) files)) (sym s)
-    (subst (λ (x : Database). IsWorld original empty x (start original) (state_of (map (new_client original.settings.tries) original.clients) empty x (start original) (desk []) files)) (sym d) base))))
+    let desk : List Job → Crew → Desk = λ js cr. record { jobs = js; place = 0; tickets = 1; crew = cr } in
+    let base : IsWorld original empty empty (start original) (state_of (map (new_client original.settings.tries) original.clients) empty empty (start original) (desk [] (new_crew original.settings.agents)) files) = record { src_block = b; dst_block = b; pace = refl; src_oldest = omega arith; dst_oldest = omega arith; src_logs = refl; dst_logs = refl; sound = opening_is_sound original files ordered } in
+    subst (λ (x : Workload). IsWorld x src dst (start x) (state_of clients src dst (start x) (desk jobs crew) files)) (sym w)
+    (subst (λ (cs : List ClientState). IsWorld original src dst (start original) (state_of cs src dst (start original) (desk jobs crew) files)) (sym c)
+    (subst (λ (js : List Job). IsWorld original src dst (start original) (state_of (map (new_client original.settings.tries) original.clients) src dst (start original) (desk js crew) files)) (sym j)
+    (subst (λ (cr : Crew). IsWorld original src dst (start original) (state_of (map (new_client original.settings.tries) original.clients) src dst (start original) (desk [] cr) files)) (sym a)
+    (subst (λ (x : Database). IsWorld original x dst (start original) (state_of (map (new_client original.settings.tries) original.clients) x dst (start original) (desk [] (new_crew original.settings.agents)) files)) (sym s)
+    (subst (λ (x : Database). IsWorld original empty x (start original) (state_of (map (new_client original.settings.tries) original.clients) empty x (start original) (desk [] (new_crew original.settings.agents)) files)) (sym d) base)))))
 
 -- and it makes its step
 pub commit_done : (workload : Workload) (src dst src' dst' : Database) (v v' : Versions) (desk : Desk) (files : Option (List File)) (items sliced new : List ClientState) (n number : ℕ) (answer : Answer) → IsWorld workload src dst v (state_of items src dst v desk files) → sliced ≡ items → n ≡ length items → length new ≡ length sliced → Commits src dst v sliced src' dst' v' new number answer → commit workload.settings (state_of items src dst v desk files) number ≡ moved (Ok answer) (state_of (take n (new ++ drop (length new) items)) src' dst' v' desk files)
@@ -186,3 +189,10 @@ tick_world workload src dst v desk files clients n version found h e f =
       dst_logs = h.dst_logs;
       sound = sound_later known workload (state_of clients src dst v desk files) version le most h.sound;
     }
+
+-- ---- agents are paused, or claim again
+
+pub paused_world : (p : Workload) (src dst : Database) (v : Versions) (w : State) (place : ℕ) (paused : Bool) → place ≡ w.place + 1 → IsWorld p src dst v w → IsWorld p src dst v (record w { paused = paused; place = place })
+paused_world p src dst v w place paused e h =
+    subst (λ (n : ℕ). IsWorld p src dst v (record w { paused = paused; place = n })) (sym e)
+    (record { src_block = h.src_block; dst_block = h.dst_block; pace = h.pace; src_oldest = h.src_oldest; dst_oldest = h.dst_oldest; src_logs = h.src_logs; dst_logs = h.dst_logs; sound = pause_keeps p w paused h.sound })

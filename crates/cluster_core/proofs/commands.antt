@@ -5,3 +5,4 @@ pub mod Abort
 pub mod Jobs
 pub mod Puts
 pub mod Open
+pub mod Pause

@@ -1,8 +1,10 @@
 pub mod Backups
 pub mod Jobs
+pub mod Agents
 pub mod State
 pub mod Moves
 pub mod Step
+pub mod Drain
 pub mod Sound
 pub mod Footprints
 pub mod Elsewhere

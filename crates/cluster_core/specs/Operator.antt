@@ -1,6 +1,5 @@
 -- What the operator's next command gives.
-use Rattle.std.specs.Prelude.{Option, Some}
-use Rattle.std.specs.Prelude.{None, Ok}
+use Rattle.std.specs.Prelude.{true, false, Option, Some, None, Ok}
 use Rattle.workload_text.specs.declared.Settings.{Settings}
 use Rattle.workload_text.specs.declared.Command.{Command}
 use Rattle.workload_text.specs.declared.Command.TheVariants as commands
@@ -12,6 +11,7 @@ use Rattle.cluster_core.specs.commands.Abort.{abort_job}
 use Rattle.cluster_core.specs.commands.Cut.{cut_log}
 use Rattle.cluster_core.specs.commands.Dump.{dump_piece}
 use Rattle.cluster_core.specs.commands.Open.{open_job}
+use Rattle.cluster_core.specs.commands.Pause.{set_paused}
 use Rattle.cluster_core.specs.commands.Seal.{seal_job}
 use Rattle.cluster_core.specs.commands.Shared.{on_job}
 use Rattle.cluster_core.specs.commands.Status.{tell_state}
@@ -28,6 +28,8 @@ command_gives settings state luck (commands.Seal tag) =
     on_job state tag (on_backup (seal_job state luck))
 command_gives settings state luck (commands.Abort tag) = on_job state tag (abort_job state)
 command_gives settings state luck (commands.Status tag) = tell_state state (newest tag state.jobs)
+command_gives settings state luck commands.Pause = set_paused state true
+command_gives settings state luck commands.Resume = set_paused state false
 command_gives settings state luck command = moved (Ok Nothing) state
 
 abbrev pub operator_with : Settings → machine.State → Luck → Option Command → Moved

@@ -1,6 +1,6 @@
 -- What each step keeps.
-use Rattle.std.specs.Prelude.{◌≡◌, ℕ, ◌+◌, ◌^◌, ◌<◌, ◌≤◌, true, false, List, [], map, length, Some}
-use Rattle.std.specs.Prelude.{Option, slice_get}
+use Rattle.std.specs.Prelude.{◌≡◌, ℕ, zero, suc, ◌+◌, ◌^◌, ◌<◌, ◌≤◌, true, false, List, [], map}
+use Rattle.std.specs.Prelude.{length, Option, Some, None, slice_get}
 use Rattle.std.specs.List.{AllByRecursion}
 use Rattle.fb_bytes.specs.Bytes.{Bytes, is_same}
 use Rattle.fb_bytes.specs.declared.KeyRange.{KeyRange}
@@ -35,8 +35,16 @@ use Rattle.client_core.specs.Clients.{ClientState}
 use Rattle.client_core.specs.Legal.{Ground, entries_by}
 use Rattle.client_core.specs.Sound.{IsSoundClient}
 use Rattle.task_kinds.specs.States.{has_ended}
+use Rattle.task_kinds.specs.Tasks.{SeenTask}
+use Rattle.task_kinds.specs.Works.{Work, OfBackup, work_of}
+use Rattle.task_bucket.specs.Holders.{HoldersFacts}
+use Rattle.task_bucket.specs.Lists.{Lists}
+use Rattle.task_bucket.specs.Sums.{weigh}
+use Rattle.backup_core.specs.declared.Mode.{Mode}
+use Rattle.backup_core.specs.declared.Mode.TheVariants as modes
 use Rattle.cluster_core.specs.declared.job.Job.{Job}
 use Rattle.cluster_core.specs.declared.job.Job.TheVariants as types
+use Rattle.cluster_core.specs.Agents.{Memory, holders_of, memory_at}
 use Rattle.cluster_core.specs.Backups.{Backup}
 use Rattle.cluster_core.specs.Jobs.{terms_of, ranges_on}
 use Rattle.cluster_core.specs.State.{State, on_side, client_at}
@@ -167,7 +175,29 @@ AreNumbered first jobs =
     (place : ℕ) (job : Job) → slice_get jobs place ≡ Some job
     → (terms_of job).number ≡ first + place
 
--- ---- five parts, each over what it reads of the state
+-- ---- tasks
+
+-- the job of a number, counted from 1
+abbrev pub job_at : List Job → ℕ → Option Job
+job_at jobs zero = None
+job_at jobs (suc n) = slice_get jobs n
+
+-- 1 for a work that a backup of this mode may not have: one of another type. A hand job has none.
+abbrev pub backup_misfit : Mode → Option Work → ℕ
+backup_misfit modes.Once (Some (OfBackup work)) = 0
+backup_misfit modes.Continuous (Some (OfBackup work)) = 0
+backup_misfit mode work = 1
+
+-- 1 for a work that isn't of the job's type, or where there is no job
+abbrev pub misfit : Option Job → Option Work → ℕ
+misfit None work = 1
+misfit (Some (types.Backup backup)) work = backup_misfit backup.job.terms.mode work
+
+-- 1 for a task that isn't one of its job
+abbrev pub misfits : List Job → ℕ → SeenTask → ℕ
+misfits jobs uid task = misfit (job_at jobs task.job) (work_of task)
+
+-- ---- six parts, each over what it reads of the state
 
 -- Neither the newest version nor a ticket that was drawn is past the greatest number.
 pub record IsClockSound (time next_ticket : ℕ) : Type 0 where
@@ -185,6 +215,19 @@ pub record AreClientsSound (settings : Settings) (scripts : List ClientScript) (
   pub scripts_are : map (λ (client : ClientState). client.script) clients ≡ scripts
   pub each : (number : ℕ) (client : ClientState) → client_at clients number ≡ Some client
       → IsClientSound settings time jobs src dst number client
+
+-- The tasks, and what agents remember of them. Agents are numbered from 0 to the workload's last.
+pub record AgentsSound (last time next : ℕ) (bucket : Lists) (agents : List (Option Memory))
+    (jobs : List Job) : Type 0 where
+  pub numbered : length agents ≡ suc last
+  -- no uid that was drawn is past the greatest number
+  pub uids : next ≤ most_version + 1
+  -- each uid stands once, and no two agents hold one lease
+  pub holders : HoldersFacts time next bucket (holders_of agents)
+  -- each task is one of its job, in the bucket and in what an agent remembers
+  pub fits : weigh (misfits jobs) bucket ≡ 0
+  pub each : (agent : ℕ) (memory : Memory) → memory_at agents agent ≡ Some memory
+      → misfits jobs memory.lease.uid memory.lease.task ≡ 0
 
 -- what the facts on jobs and on their containers read of a state
 pub record View : Type 0 where
@@ -234,6 +277,8 @@ pub record Sound (workload : Workload) (state : State) : Type 0 where
   pub clients : AreClientsSound workload.settings workload.clients state.time state.jobs state.src
       state.dst state.clients
   pub jobs : AreJobsSound (view_of workload.settings.block state)
+  pub agents : AgentsSound workload.settings.agents state.time state.uids state.bucket state.agents
+      state.jobs
   -- where the store tells its files
   pub containers : (files : List File) → state.files ≡ Some files
       → AreContainersSound (view_of workload.settings.block state) files

@@ -1,14 +1,17 @@
 -- The machine's state.
-use Rattle.std.specs.Prelude.{ℕ, zero, suc, List, [], map, Option, Some, None, slice_get, slice_set}
+use Rattle.std.specs.Prelude.{ℕ, zero, suc, Bool, false, List, [], map, replicate, Option, Some}
+use Rattle.std.specs.Prelude.{None, slice_get, slice_set}
 use Rattle.fb_bytes.specs.Bytes.{Bytes}
 use Rattle.fb_outside.specs.declared.File.{File}
 use Rattle.fb_outside.specs.Files.{with_file}
 use Rattle.mutations.specs.declared.Entry.{Entry}
+use Rattle.task_bucket.specs.Lists.{Lists, nothing}
 use Rattle.workload_text.specs.declared.Side.{Side}
 use Rattle.workload_text.specs.declared.Side.TheVariants.{Src, Dst}
 use Rattle.workload_text.specs.declared.Workload.{Workload}
 use Rattle.client_core.specs.Clients.{ClientState, new_client}
 use Rattle.cluster_core.specs.declared.job.Job.{Job}
+use Rattle.cluster_core.specs.Agents.{Memory}
 
 pub record State : Type 0 where
   -- the newest version
@@ -24,6 +27,13 @@ pub record State : Type 0 where
   pub place : ℕ
   -- the next ticket: files are numbered in the order of the puts that succeeded
   pub tickets : ℕ
+  -- the tasks that are to be done, and the next uid
+  pub bucket : Lists
+  pub uids : ℕ
+  -- agents claim nothing meanwhile
+  pub paused : Bool
+  -- what each agent remembers, by its number from 0
+  pub agents : List (Option Memory)
   -- the files of the store, where it tells them
   pub files : Option (List File)
 
@@ -70,5 +80,9 @@ opening workload files =
       jobs = [];
       place = 0;
       tickets = 1;
+      bucket = nothing;
+      uids = 1;
+      paused = false;
+      agents = replicate (suc workload.settings.agents) None;
       files = files;
     }

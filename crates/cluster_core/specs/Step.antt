@@ -3,7 +3,8 @@ use Rattle.std.specs.Prelude.{◌≡◌, List, [], ◌∷◌, Result, Err, slice
 use Rattle.std.specs.Prelude.{if◌then◌else◌}
 use Rattle.workload_text.specs.declared.Workload.{Workload}
 use Rattle.cluster_core.specs.declared.event.Event.{Event}
-use Rattle.cluster_core.specs.declared.event.Event.TheVariants.{Begin, Commit, Tick}
+use Rattle.cluster_core.specs.declared.event.Event.TheVariants.{Begin, Commit, Tick, Claim, Extend}
+use Rattle.cluster_core.specs.declared.event.Event.TheVariants.{Die}
 use Rattle.cluster_core.specs.declared.event.Event.TheVariants as events
 use Rattle.cluster_core.specs.declared.event.Answer.{Answer}
 use Rattle.cluster_core.specs.declared.event.StepFault.{StepFault}
@@ -12,7 +13,10 @@ use Rattle.cluster_core.specs.State.{State}
 use Rattle.cluster_core.specs.Moves.{Luck, is_starved, Moved, moved}
 use Rattle.cluster_core.specs.Operator.{operator_with}
 use Rattle.cluster_core.specs.events.Begin.{begin}
+use Rattle.cluster_core.specs.events.Claim.{claim}
 use Rattle.cluster_core.specs.events.Commit.{commit}
+use Rattle.cluster_core.specs.events.Die.{die}
+use Rattle.cluster_core.specs.events.Extend.{extend}
 use Rattle.cluster_core.specs.events.Tick.{tick}
 
 -- The operator's next command, where one is left.
@@ -25,6 +29,9 @@ abbrev pub event_gives : Workload → State → Luck → Event → Moved
 event_gives workload state luck (Begin client) = begin state client
 event_gives workload state luck (Commit client) = commit workload.settings state client
 event_gives workload state luck (Tick n) = tick state n
+event_gives workload state luck (Claim agent pick) = claim workload.settings state agent pick
+event_gives workload state luck (Extend agent) = extend workload.settings state agent
+event_gives workload state luck (Die agent) = die state agent
 event_gives workload state luck events.Command = operate workload state luck
 
 -- A step for which memory is short is refused, and changes nothing.

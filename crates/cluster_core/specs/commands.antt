@@ -5,3 +5,4 @@ pub mod Cut
 pub mod Seal
 pub mod Abort
 pub mod Status
+pub mod Pause

@@ -16,6 +16,12 @@ pub enum Event {
     Commit { client: u32 },
     /// So many versions go by.
     Tick { n: u64 },
+    /// The agent claims a task: that with the greatest uid at or below the pick, else the first.
+    Claim { agent: u32, pick: u64 },
+    /// The agent asks for more time for its task.
+    Extend { agent: u32 },
+    /// The agent dies, and forgets its task. Another process with its number may claim again.
+    Die { agent: u32 },
     /// The operator makes a step of its next command.
     Command,
 }

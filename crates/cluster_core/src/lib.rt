@@ -4,18 +4,22 @@
 mod backup;
 mod change;
 mod clients;
+mod crew;
+mod drain;
 mod event;
 mod job;
 mod job_kind;
 mod jobs;
 mod laws;
 mod logging;
+mod memory;
 mod plan;
 mod planning;
 mod refusal;
 mod world;
 
 pub use backup::Backup;
+pub use drain::DrainFault;
 pub use event::{Answer, Event, StepFault};
 pub use job::Job;
 pub use job_kind::JobKind;

@@ -27,6 +27,10 @@ pub enum Plan {
     Tell(Option<JobState>),
     /// It puts a file.
     Put(Filing),
+    /// It lets agents claim nothing, or claim again.
+    Pause {
+        paused: bool,
+    },
     /// It ends the job at this place.
     Abort {
         place: usize,

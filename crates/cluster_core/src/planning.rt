@@ -58,12 +58,12 @@ impl<V: Vault> World<V> {
             Command::Seal { tag } => self.plan_on(tag, JobCommand::Seal),
             Command::Abort { tag } => self.plan_on(tag, JobCommand::Abort),
             Command::Status { tag } => Ok(Plan::Tell(self.state_of(tag))),
+            Command::Pause => Ok(Plan::Pause { paused: true }),
+            Command::Resume => Ok(Plan::Pause { paused: false }),
             // These aren't served yet.
             Command::Backup { .. }
             | Command::Snapshot { .. }
             | Command::Discontinue { .. }
-            | Command::Pause
-            | Command::Resume
             | Command::Wait { .. }
             | Command::Expire { .. }
             | Command::Restore { .. }

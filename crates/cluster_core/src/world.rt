@@ -12,14 +12,17 @@ ghost use Rattle.cluster_core.specs.commands.Shared.{gone_on};
 ghost use Rattle.cluster_core.specs.Step.{Step, step};
 ghost use Rattle.cluster_core.specs.events.Begin.{begin};
 ghost use Rattle.cluster_core.specs.events.Commit.{commit};
+ghost use Rattle.cluster_core.specs.events.Die.{die};
 ghost use Rattle.cluster_core.specs.events.Tick.{tick};
+ghost use Rattle.cluster_core.specs.commands.Pause.{set_paused};
 ghost use Rattle.cluster_core.specs.inner.Plans.{IsPlan, IsSafe};
 ghost use Rattle.cluster_core.specs.Footprints.{Footprint, reach};
 ghost use Rattle.cluster_core.specs.Sound.{Sound};
-ghost use Rattle.cluster_core.specs.inner.World.{CommitSteps, OperatorSteps, IsListed, IsFirstName};
+ghost use Rattle.cluster_core.specs.inner.World.{CommitSteps, AgentSteps, OperatorSteps, IsListed, IsFirstName};
 
 use crate::change::{go_ahead, settle, take_back};
 use crate::clients::{begin_client, commit_client, new_clients};
+use crate::crew::Crew;
 use crate::logging::{begin_log, end_log};
 use crate::plan::{Filing, Plan};
 use crate::{Answer, Backup, Event, Job, Jobs, Refusal, StepFault};
@@ -69,6 +72,7 @@ pub struct World<V: Vault> {
     pub(crate) place: usize,
     /// The next ticket.
     pub(crate) tickets: u64,
+    crew: Crew,
     vault: V,
     pub(crate) alloc: Global,
 }
@@ -85,7 +89,12 @@ impl<V: Vault> Model for World<V> {
     ghost view = { λ world. record {
       workload = world.workload;
       state = state_of world.clients.items world.src world.dst world.versions
-          (record { jobs = world.jobs.items; place = world.place; tickets = world.tickets })
+          (record {
+            jobs = world.jobs.items;
+            place = world.place;
+            tickets = world.tickets;
+            crew = world.crew;
+          })
           (V.files world.vault);
       calls = V.calls world.vault;
       faults = V.faults world.vault;
@@ -93,7 +102,12 @@ impl<V: Vault> Model for World<V> {
 
     ghost invariant = { λ world. IsWorld world.workload world.src world.dst world.versions
         (state_of world.clients.items world.src world.dst world.versions
-        (record { jobs = world.jobs.items; place = world.place; tickets = world.tickets })
+        (record {
+          jobs = world.jobs.items;
+          place = world.place;
+          tickets = world.tickets;
+          crew = world.crew;
+        })
         (V.files world.vault)) };
 }
 
@@ -112,6 +126,9 @@ impl<V: Vault> World<V> {
         let Ok((workload, clients)) = copies(alloc, workload) else {
             return Err(OpenFault { vault });
         };
+        let Ok(crew) = Crew::new(alloc, workload.settings.agents) else {
+            return Err(OpenFault { vault });
+        };
         Ok(World {
             versions: Versions {
                 now: 0,
@@ -124,6 +141,7 @@ impl<V: Vault> World<V> {
             jobs: Vec::new(alloc),
             place: 0,
             tickets: 1,
+            crew,
             vault,
             alloc,
         })
@@ -141,6 +159,13 @@ impl<V: Vault> World<V> {
         ensures { result ≡ self.now.state.time }
     {
         self.versions.now
+    }
+
+    /// The next uid that a task is to have. It takes no memory.
+    pub fn next_uid(&self) -> u64
+        ensures { result ≡ self.now.state.uids }
+    {
+        self.crew.next_uid()
     }
 
     /// The operator's next command, where one is left. It takes no memory.
@@ -168,6 +193,9 @@ impl<V: Vault> World<V> {
             Event::Begin { client } => Ok(self.begin(*client)),
             Event::Commit { client } => self.commit(*client),
             Event::Tick { n } => self.tick(*n),
+            Event::Claim { agent, pick } => self.claim(*agent, *pick),
+            Event::Extend { agent } => self.extend(*agent),
+            Event::Die { agent } => Ok(self.die(*agent)),
             Event::Command => self.operate(),
         };
         let _sound = &self.workload;
@@ -195,6 +223,7 @@ impl<V: Vault> World<V> {
             jobs,
             place: _,
             tickets: _,
+            crew: _,
             vault,
             alloc: _,
         } = self;
@@ -264,6 +293,51 @@ impl<V: Vault> World<V> {
         }
     }
 
+    /// The agent claims a task.
+    fn claim(&mut self, agent: u32, pick: u64) -> Result<Answer, StepFault>
+        ensures step { AgentSteps self.old.workload self.old.state (Event.Claim agent pick) result
+            self.new.state }
+        ensures workload { self.new.workload ≡ self.old.workload }
+        ensures calls { self.new.calls ≡ self.old.calls }
+        ensures faults { self.new.faults ≡ self.old.faults }
+        ensures fault { IsErrOf result StepFault.VaultFault → ⊥ }
+    {
+        let now = self.versions.now;
+        match self
+            .crew
+            .claim(agent, pick, now, self.workload.settings.lease)
+        {
+            Ok(answer) => Ok(answer),
+            Err(AllocError) => Err(StepFault::NoMemory),
+        }
+    }
+
+    /// The agent asks for more time.
+    fn extend(&mut self, agent: u32) -> Result<Answer, StepFault>
+        ensures step { AgentSteps self.old.workload self.old.state (Event.Extend agent) result
+            self.new.state }
+        ensures workload { self.new.workload ≡ self.old.workload }
+        ensures calls { self.new.calls ≡ self.old.calls }
+        ensures faults { self.new.faults ≡ self.old.faults }
+        ensures fault { IsErrOf result StepFault.VaultFault → ⊥ }
+    {
+        let now = self.versions.now;
+        match self.crew.extend(agent, now, self.workload.settings.lease) {
+            Ok(answer) => Ok(answer),
+            Err(AllocError) => Err(StepFault::NoMemory),
+        }
+    }
+
+    /// The agent dies.
+    fn die(&mut self, agent: u32) -> Answer
+        ensures step { die self.old.state agent ≡ moved (Ok result) self.new.state }
+        ensures workload { self.new.workload ≡ self.old.workload }
+        ensures calls { self.new.calls ≡ self.old.calls }
+        ensures faults { self.new.faults ≡ self.old.faults }
+    {
+        self.crew.die(agent)
+    }
+
     /// Makes the step of the operator's next command.
     fn operate(&mut self) -> Result<Answer, StepFault>
         ensures step { OperatorSteps self.old result self.new }
@@ -281,6 +355,10 @@ impl<V: Vault> World<V> {
             Plan::Tell(state) => {
                 self.go_on();
                 Ok(Answer::State { state })
+            }
+            Plan::Pause { paused } => {
+                self.pause(paused);
+                Ok(Answer::Done)
             }
             Plan::Put(filing) => self.put(filing),
             Plan::Abort { place } => {
@@ -304,6 +382,18 @@ impl<V: Vault> World<V> {
         ensures calls { self.new.calls ≡ self.old.calls }
         ensures faults { self.new.faults ≡ self.old.faults }
     {
+        self.place = next_place(self.place, self.workload.operator.len());
+    }
+
+    // Lets agents claim nothing, or claim again.
+    fn pause(&mut self, paused: bool)
+        requires { self.old.state.place < length self.old.workload.operator }
+        ensures state { set_paused self.old.state paused ≡ moved (Ok Answer.Done) self.new.state }
+        ensures workload { self.new.workload ≡ self.old.workload }
+        ensures calls { self.new.calls ≡ self.old.calls }
+        ensures faults { self.new.faults ≡ self.old.faults }
+    {
+        self.crew.set_paused(paused);
         self.place = next_place(self.place, self.workload.operator.len());
     }
 

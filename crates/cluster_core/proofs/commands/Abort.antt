@@ -18,6 +18,7 @@ use Rattle.cluster_core.specs.Jobs.{Job, Found, terms_of}
 use Rattle.cluster_core.specs.State.{State, history_on, with_job}
 use Rattle.cluster_core.specs.Sound.{BackupSound, Sound}
 use Rattle.cluster_core.proofs.Frames.{sound_gone, sound_changed}
+use Rattle.cluster_core.proofs.Known.{Known}
 use Rattle.cluster_core.proofs.Touching.{Touches}
 
 pub aborted_sound : (block now tickets : ℕ) (history : List Entry) (job : Backup) → BackupSound block now tickets history job → BackupSound block now tickets history (record job { job = aborted_job job.job })
@@ -51,11 +52,11 @@ abort_touches pace w found at = record {
   files = inl refl;
 }
 
-backup_keeps : (p : Workload) (w : State) (place : ℕ) (job : Job) → Sound p w → slice_get w.jobs place ≡ Some job → Sound p (with_job place (with_abort job) w)
-backup_keeps p w place (types.Backup backup) h at =
-    sound_changed p w place backup (aborted_job backup.job) h at refl
+backup_keeps : (k : Known) (p : Workload) (w : State) (place : ℕ) (job : Job) → Sound p w → slice_get w.jobs place ≡ Some job → Sound p (with_job place (with_abort job) w)
+backup_keeps k p w place (types.Backup backup) h at =
+    sound_changed k p w place backup (aborted_job backup.job) h at refl
     (aborted_sound p.settings.block w.time w.tickets (history_on backup.side w) backup (h.jobs.each place (types.Backup backup) at))
     (λ files e. let st = (h.containers files e).each place (types.Backup backup) at in record { honest = st.honest; there = st.there; listed = st.listed })
 
-pub abort_keeps : (p : Workload) (w : State) (found : Found) → Sound p w → slice_get w.jobs found.place ≡ Some found.job → Sound p (abort_job w found).state
-abort_keeps p w found h at = sound_gone p (with_job found.place (with_abort found.job) w) (backup_keeps p w found.place found.job h at)
+pub abort_keeps : (k : Known) (p : Workload) (w : State) (found : Found) → Sound p w → slice_get w.jobs found.place ≡ Some found.job → Sound p (abort_job w found).state
+abort_keeps k p w found h at = sound_gone p (with_job found.place (with_abort found.job) w) (backup_keeps k p w found.place found.job h at)

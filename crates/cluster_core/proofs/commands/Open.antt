@@ -50,6 +50,7 @@ use Rattle.cluster_core.specs.Sound.{IsOrdered, AreLoggable, BackupSound, IsStor
 use Rattle.client_core.proofs.Lists.{All-weaker}
 use Rattle.cluster_core.proofs.All.{each_more}
 use Rattle.cluster_core.proofs.Paces.{pace_forward}
+use Rattle.cluster_core.proofs.Holding.{agents_later, agents_among, fits_more}
 use Rattle.cluster_core.proofs.Known.{Known}
 use Rattle.cluster_core.proofs.Grown.{each_sound, each_kept, job_grown, stored_grown, waits}
 use Rattle.cluster_core.proofs.Frames.{sound_gone}
@@ -209,6 +210,7 @@ sound_more k p w tag side container ranges version h l m i none empty =
         apart = apart_more w.jobs (new_backup (length w.jobs + 1) tag side container ranges version) none h.jobs.apart;
         numbered = each_more (λ n x. (terms_of x).number ≡ 1 + n) w.jobs (new_job (length w.jobs + 1) tag side container ranges version) (let e : length w.jobs + 1 ≡ 1 + length w.jobs = omega arith in e) h.jobs.numbered;
       };
+      agents = agents_among k p.settings.agents version w.uids w.bucket w.agents w.jobs (w.jobs ++ new_job (length w.jobs + 1) tag side container ranges version ∷ []) (fits_more w.jobs (new_job (length w.jobs + 1) tag side container ranges version)) (agents_later k p.settings.agents w.time version w.uids w.bucket w.agents w.jobs le h.agents);
       containers = λ files e.
           let s = h.containers files e in
           record {

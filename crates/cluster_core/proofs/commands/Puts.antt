@@ -99,7 +99,7 @@ puts_keeps : (k : Known) (p : Workload) (w : State) (place : ℕ) (job : Backup)
 puts_keeps k p w place job hand name bytes (Fine said) h at t o =
     let filed = sound_filed k p w place job name bytes h at o.fresh o.good in
     let drawn = sound_drawn k p (record w { files = with_put (whole_name job.container name) bytes w.files }) t filed in
-    let changed = sound_changed p (record w { files = with_put (whole_name job.container name) bytes w.files; tickets = w.tickets + 1 }) place job hand drawn at o.terms o.after
+    let changed = sound_changed k p (record w { files = with_put (whole_name job.container name) bytes w.files; tickets = w.tickets + 1 }) place job hand drawn at o.terms o.after
     (λ files e. o.stored files (put_there k (whole_name job.container name) bytes w.files files e) ((drawn.containers files e).each place (types.Backup job) at)) in
     sound_gone p (with_job place (types.Backup (record job { job = hand })) (record w { files = with_put (whole_name job.container name) bytes w.files; tickets = w.tickets + 1 })) changed
 puts_keeps k p w place job hand name bytes FailsOld h at t o = h

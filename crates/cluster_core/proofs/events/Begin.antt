@@ -32,6 +32,7 @@ begun_keeps p w n c at is h = record {
         (λ m d _ e. h.clients.each m d e);
   };
   jobs = h.jobs;
+  agents = h.agents;
   containers = h.containers;
 }
 

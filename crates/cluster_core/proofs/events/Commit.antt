@@ -1,7 +1,7 @@
 -- The event commit.
 use Rattle.std.specs.Prelude.{◌≡◌, ℕ, zero, suc, ◌+◌, ◌^◌, ◌<◌, ◌≤◌, Bool, true, false, List, [], ◌∷◌, ◌++◌, length, Option, Some, None, Result, Ok, Err, ◌⊎◌, if◌then◌else◌, slice_get, refl}
 use Rattle.std.specs.List.{AllByRecursion}
-use Rattle.std.proofs.Common.{ap, sym, ◌∙◌, arith, subst, cond, inl, inr}
+use Rattle.std.proofs.Common.{ap, sym, ◌∙◌, arith, subst, inl, inr}
 use Rattle.std.proofs.lemmas.Bool.{ne_eqb}
 use Rattle.fb_bytes.specs.declared.KeyRange.{KeyRange}
 use Rattle.fb_bytes.specs.Options.{◌>>=◌, IsIn}
@@ -41,12 +41,13 @@ use Rattle.cluster_core.specs.Backups.{Backup}
 use Rattle.cluster_core.specs.Footprints.{IsEntered}
 use Rattle.cluster_core.specs.Jobs.{Job, is_on, log_on, range_on, ranges_on, with_front, logs_of}
 use Rattle.cluster_core.specs.Moves.{moved}
-use Rattle.cluster_core.specs.Sound.{IsOrdered, other_side, ground_of, IsClientSound, AreClientsSound, AreLoggable, BackupSound, IsStored, AreApart, AreNumbered, Sound, source_of}
+use Rattle.cluster_core.specs.Sound.{IsOrdered, other_side, ground_of, IsClientSound, AreClientsSound, AreLoggable, BackupSound, IsStored, AreApart, AreNumbered, AgentsSound, Sound, source_of}
 use Rattle.cluster_core.specs.State.{State, on_side, history_on, with_history, client_at, put_client}
 use Rattle.cluster_core.specs.events.Commit.{commit_with, scene_on, try_in}
 use Rattle.cluster_core.proofs.Answered.{IsNext, answer_is_next, later_time}
 use Rattle.cluster_core.proofs.Entries.{IsRising-snoc}
 use Rattle.cluster_core.proofs.Grown.{each_sound, each_kept, job_grown, stored_grown, waits, enters}
+use Rattle.cluster_core.proofs.Holding.{agents_later}
 use Rattle.cluster_core.proofs.Known.{Known}
 use Rattle.cluster_core.proofs.Lists.{scripts_put, each_put}
 use Rattle.cluster_core.proofs.Numbering.{log_for, own_log, all_front}
@@ -148,6 +149,10 @@ with_history_next Dst history w = refl
 with_history_tickets : (side : Side) (history : List Entry) (w : State) → w.tickets ≤ most_version + 1 → (with_history side history w).tickets ≤ most_version + 1
 with_history_tickets Src history w h = h
 with_history_tickets Dst history w h = h
+
+with_history_agents : (side : Side) (history : List Entry) (w : State) (last time : ℕ) → AgentsSound last time w.uids w.bucket w.agents w.jobs → AgentsSound last time (with_history side history w).uids (with_history side history w).bucket (with_history side history w).agents (with_history side history w).jobs
+with_history_agents Src history w last time h = h
+with_history_agents Dst history w last time h = h
 
 with_history_files : (side : Side) (history : List Entry) (w : State) → (with_history side history w).files ≡ w.files
 with_history_files Src history w = refl
@@ -298,6 +303,7 @@ ended_keeps known p w n c read ops o at tried end is_next taking h =
         apart = subst AreApart (sym (with_history_jobs c.script.side history w)) h.jobs.apart;
         numbered = subst (AreNumbered 1) (sym (with_history_jobs c.script.side history w)) h.jobs.numbered;
       };
+      agents = with_history_agents c.script.side history w p.settings.agents (time_after o w.time) (agents_later known p.settings.agents w.time (time_after o w.time) w.uids w.bucket w.agents w.jobs le h.agents);
       containers = λ files e.
           let g : w.files ≡ Some files = sym (with_history_files c.script.side history w) ∙ e in
           let st = h.containers files g in

@@ -3,7 +3,6 @@ use Rattle.std.specs.Prelude.{◌≡◌, ℕ, ◌+◌, ◌≤◌, Bool, true, fa
 use Rattle.std.proofs.Common.{arith, inl, cond}
 use Rattle.std.proofs.lemmas.Bool.{ltb-false}
 use Rattle.mutations.specs.declared.Entry.{Entry}
-use Rattle.workload_text.specs.declared.Side.{Side}
 use Rattle.workload_text.specs.declared.Workload.{Workload}
 use Rattle.database.specs.Commits.{most_version}
 use Rattle.cluster_core.specs.declared.event.Answer.TheVariants.{Version}
@@ -12,9 +11,10 @@ use Rattle.cluster_core.specs.declared.job.Job.TheVariants as types
 use Rattle.cluster_core.specs.State.{State, history_on}
 use Rattle.cluster_core.specs.Moves.{moved}
 use Rattle.cluster_core.specs.events.Tick.{tick}
-use Rattle.cluster_core.specs.Sound.{IsOrdered, Sound}
+use Rattle.cluster_core.specs.Sound.{Sound}
 use Rattle.client_core.proofs.Lists.{All-weaker}
 use Rattle.cluster_core.proofs.Grown.{each_sound, each_kept, job_grown, stored_grown, waits}
+use Rattle.cluster_core.proofs.Holding.{agents_later}
 use Rattle.cluster_core.proofs.Known.{Known}
 use Rattle.cluster_core.proofs.Touching.{Touches, same}
 use Rattle.cluster_core.proofs.Waiting.{no_more, clients_wait}
@@ -40,6 +40,7 @@ sound_later k p w later le m h = record {
     apart = h.jobs.apart;
     numbered = h.jobs.numbered;
   };
+  agents = agents_later k p.settings.agents w.time later w.uids w.bucket w.agents w.jobs le h.agents;
   containers = λ files e.
       let s = h.containers files e in
       record { ordered = s.ordered; each = each_kept p.settings.block later w.tickets w.src w.dst files w.jobs (λ n x f. stored_grown k p.settings.block w.time later w.tickets w.tickets (history_on x.side w) (history_on x.side w) files x (waits p.settings.block w.time later (history_on x.side w) x le) (itself w.tickets) (s.each n (types.Backup x) f)) };

@@ -62,7 +62,7 @@ abort_done p w place next job plan at e =
     plan (Fine Silent) ∙ ap (aborts w place) at
     ∙ ap (λ (n : ℕ). moved (Ok answers.Done) (record w { jobs = slice_set w.jobs place (with_abort job); place = n })) (sym e)
 
-abort_side : (p : Workload) (side : Side) (src dst : Database) (v : Versions) (clients : List ClientState) (desk : Desk) (files : Option (List File)) (place : ℕ) (job : Job) → IsWorld p src dst v (state_of clients src dst v desk files) → IsPlan p (state_of clients src dst v desk files) (plans.Abort place) → slice_get desk.jobs place ≡ Some job → side ≡ (terms_of job).side → IsWorld p (logs_less side Src (place + 1) src) (logs_less side Dst (place + 1) dst) v (state_of clients (logs_less side Src (place + 1) src) (logs_less side Dst (place + 1) dst) v (record { jobs = slice_set desk.jobs place (with_abort job); place = desk.place + 1; tickets = desk.tickets }) files)
+abort_side : (p : Workload) (side : Side) (src dst : Database) (v : Versions) (clients : List ClientState) (desk : Desk) (files : Option (List File)) (place : ℕ) (job : Job) → IsWorld p src dst v (state_of clients src dst v desk files) → IsPlan p (state_of clients src dst v desk files) (plans.Abort place) → slice_get desk.jobs place ≡ Some job → side ≡ (terms_of job).side → IsWorld p (logs_less side Src (place + 1) src) (logs_less side Dst (place + 1) dst) v (state_of clients (logs_less side Src (place + 1) src) (logs_less side Dst (place + 1) dst) v (record desk { jobs = slice_set desk.jobs place (with_abort job); place = desk.place + 1 }) files)
 abort_side p Src src dst v clients desk files place job h plan at s = record {
   src_block = h.src_block;
   dst_block = h.dst_block;
@@ -84,18 +84,18 @@ abort_side p Dst src dst v clients desk files place job h plan at s = record {
   sound = sound_step p (state_of clients src dst v desk files) (Fine Silent) _ h.sound (abort_done p (state_of clients src dst v desk files) place (desk.place + 1) job plan at refl);
 }
 
-pub abort_world : (p : Workload) (side : Side) (src dst src' dst' : Database) (v : Versions) (clients : List ClientState) (desk : Desk) (files : Option (List File)) (place next : ℕ) (job : Job) → src' ≡ logs_less side Src (place + 1) src → dst' ≡ logs_less side Dst (place + 1) dst → next ≡ desk.place + 1 → IsWorld p src dst v (state_of clients src dst v desk files) → IsPlan p (state_of clients src dst v desk files) (plans.Abort place) → slice_get desk.jobs place ≡ Some job → side ≡ (terms_of job).side → IsWorld p src' dst' v (state_of clients src' dst' v (record { jobs = slice_set desk.jobs place (with_abort job); place = next; tickets = desk.tickets }) files)
+pub abort_world : (p : Workload) (side : Side) (src dst src' dst' : Database) (v : Versions) (clients : List ClientState) (desk : Desk) (files : Option (List File)) (place next : ℕ) (job : Job) → src' ≡ logs_less side Src (place + 1) src → dst' ≡ logs_less side Dst (place + 1) dst → next ≡ desk.place + 1 → IsWorld p src dst v (state_of clients src dst v desk files) → IsPlan p (state_of clients src dst v desk files) (plans.Abort place) → slice_get desk.jobs place ≡ Some job → side ≡ (terms_of job).side → IsWorld p src' dst' v (state_of clients src' dst' v (record desk { jobs = slice_set desk.jobs place (with_abort job); place = next }) files)
 abort_world p side src dst src' dst' v clients desk files place next job a b n h plan at s =
-    let P : Database → Database → ℕ → Type 0 = λ x y m. IsWorld p x y v (state_of clients x y v (record { jobs = slice_set desk.jobs place (with_abort job); place = m; tickets = desk.tickets }) files) in
+    let P : Database → Database → ℕ → Type 0 = λ x y m. IsWorld p x y v (state_of clients x y v (record desk { jobs = slice_set desk.jobs place (with_abort job); place = m }) files) in
     subst (λ (m : ℕ). P src' dst' m) (sym n) (subst (λ (x : Database). P x dst' (desk.place + 1)) (sym a) (subst (λ (y : Database). P (logs_less side Src (place + 1) src) y (desk.place + 1)) (sym b)
     (abort_side p side src dst v clients desk files place job h plan at s)))
 
 -- and its step leaves the state of these parts
-pub abort_state : (p : Workload) (side : Side) (src dst src' dst' : Database) (v : Versions) (clients : List ClientState) (desk : Desk) (files : Option (List File)) (place next : ℕ) (job : Job) → src' ≡ logs_less side Src (place + 1) src → dst' ≡ logs_less side Dst (place + 1) dst → next ≡ desk.place + 1 → IsPlan p (state_of clients src dst v desk files) (plans.Abort place) → slice_get desk.jobs place ≡ Some job → step p (state_of clients src dst v desk files) events.Command (Fine Silent) ≡ moved (Ok answers.Done) (state_of clients src' dst' v (record { jobs = slice_set desk.jobs place (with_abort job); place = next; tickets = desk.tickets }) files)
+pub abort_state : (p : Workload) (side : Side) (src dst src' dst' : Database) (v : Versions) (clients : List ClientState) (desk : Desk) (files : Option (List File)) (place next : ℕ) (job : Job) → src' ≡ logs_less side Src (place + 1) src → dst' ≡ logs_less side Dst (place + 1) dst → next ≡ desk.place + 1 → IsPlan p (state_of clients src dst v desk files) (plans.Abort place) → slice_get desk.jobs place ≡ Some job → step p (state_of clients src dst v desk files) events.Command (Fine Silent) ≡ moved (Ok answers.Done) (state_of clients src' dst' v (record desk { jobs = slice_set desk.jobs place (with_abort job); place = next }) files)
 abort_state p side src dst src' dst' v clients desk files place next job a b n plan at =
     abort_done p (state_of clients src dst v desk files) place next job plan at n
-    ∙ ap (λ (h : List Entry). moved (Ok answers.Done) (record (state_of clients src dst v (record { jobs = slice_set desk.jobs place (with_abort job); place = next; tickets = desk.tickets }) files) { src = h })) (sym (ap (λ (x : Database). x.history) a ∙ less_history side Src (place + 1) src))
-    ∙ ap (λ (h : List Entry). moved (Ok answers.Done) (record (state_of clients src' dst v (record { jobs = slice_set desk.jobs place (with_abort job); place = next; tickets = desk.tickets }) files) { dst = h })) (sym (ap (λ (x : Database). x.history) b ∙ less_history side Dst (place + 1) dst))
+    ∙ ap (λ (h : List Entry). moved (Ok answers.Done) (record (state_of clients src dst v (record desk { jobs = slice_set desk.jobs place (with_abort job); place = next }) files) { src = h })) (sym (ap (λ (x : Database). x.history) a ∙ less_history side Src (place + 1) src))
+    ∙ ap (λ (h : List Entry). moved (Ok answers.Done) (record (state_of clients src' dst v (record desk { jobs = slice_set desk.jobs place (with_abort job); place = next }) files) { dst = h })) (sym (ap (λ (x : Database). x.history) b ∙ less_history side Dst (place + 1) dst))
   where
     less_history : (side other : Side) (job : ℕ) (db : Database) → (logs_less side other job db).history ≡ db.history
     less_history Src Src job db = refl

@@ -1,5 +1,5 @@
 -- Which plans there are while the operator has a command left, and what a step comes to.
-use Rattle.std.specs.Prelude.{◌≡◌, ℕ, ◌+◌, ◌<◌, List, length, Option, Some, None, Result, Ok, Err, slice_get, refl}
+use Rattle.std.specs.Prelude.{◌≡◌, ℕ, ◌+◌, ◌<◌, Bool, List, length, Option, Some, None, Result, Ok, Err, slice_get, refl}
 use Rattle.std.proofs.Common.{ap, sym, ◌∙◌, subst}
 use Rattle.fb_bytes.specs.Bytes.{Bytes}
 use Rattle.fb_bytes.specs.declared.KeyRange.{KeyRange}
@@ -26,7 +26,7 @@ use Rattle.cluster_core.specs.Operator.{operator_with}
 use Rattle.cluster_core.specs.Step.{operate, Step}
 use Rattle.cluster_core.specs.inner.Plans.{aborts, IsPlan, IsSafe}
 use Rattle.cluster_core.specs.World.{Seen}
-use Rattle.cluster_core.specs.inner.World.{CommitSteps, IsWorld}
+use Rattle.cluster_core.specs.inner.World.{CommitSteps, AgentSteps, IsWorld}
 use Rattle.cluster_core.proofs.commands.Open.{past_end}
 use Rattle.cluster_core.proofs.Frames.{sound_gone}
 use Rattle.cluster_core.proofs.plans.Put.{ticket_left}
@@ -52,6 +52,9 @@ refuse_room p w refusal plan = has_room p w (λ e. let q = ap (λ (m : Moved). m
 pub tell_room : (p : Workload) (w : State) (state : Option JobState) → IsPlan p w (plans.Tell state) → w.place < length p.operator
 tell_room p w state plan = has_room p w (λ e. let q = ap (λ (m : Moved). m.answer) (sym (nothing_left p w FailsOld e) ∙ plan FailsOld) in cc)
 
+pub pause_room : (p : Workload) (w : State) (paused : Bool) → IsPlan p w (plans.Pause paused) → w.place < length p.operator
+pause_room p w paused plan = has_room p w (λ e. let q = ap (λ (m : Moved). m.answer) (sym (nothing_left p w FailsOld e) ∙ plan FailsOld) in cc)
+
 pub open_room : (p : Workload) (w : State) (tag : Bytes) (side : Side) (container : Bytes) (ranges : List KeyRange) → IsPlan p w (plans.Open tag side container ranges) → w.place < length p.operator
 open_room p w tag side container ranges plan = has_room p w (λ e. let q = ap (λ (m : Moved). m.answer) (sym (nothing_left p w FailsOld e) ∙ plan FailsOld) in cc)
 
@@ -70,3 +73,7 @@ made p old event e answer a new n x y z s =
 pub commit_made : (p : Workload) (old : State) (number : ℕ) (result : Result Answer StepFault) (new : State) → CommitSteps p.settings old number result new → Step p old (events.Commit number) result new
 commit_made p old number (Ok answer) new h = record { luck = Fine Silent; gives = h }
 commit_made p old number (Err fault) new h = record { luck = Starved; gives = ap (moved (Err NoMemory)) (sym h.1) ∙ ap (λ (f : StepFault). moved (Err f) new) (sym h.0) }
+
+pub agent_made : (p : Workload) (old : State) (event : Event) (result : Result Answer StepFault) (new : State) → AgentSteps p old event result new → Step p old event result new
+agent_made p old event (Ok answer) new h = record { luck = Fine Silent; gives = h }
+agent_made p old event (Err fault) new h = record { luck = Starved; gives = ap (moved (Err NoMemory)) (sym h.1) ∙ ap (λ (f : StepFault). moved (Err f) new) (sym h.0) }

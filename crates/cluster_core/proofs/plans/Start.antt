@@ -141,15 +141,15 @@ pub record IsStart (side : Side) (tag container : Bytes) (ranges : List KeyRange
   pub jobs_are : jobs ≡ desk.jobs ++ new_job (length desk.jobs + 1) tag side container ranges version ∷ []
   pub next_is : next ≡ desk.place + 1
 
-started : (p : Workload) (side : Side) (tag container : Bytes) (ranges : List KeyRange) (src dst src' dst' : Database) (v v' : Versions) (clients : List ClientState) (desk : Desk) (files : Option (List File)) (jobs : List Job) (next version : ℕ) → IsStart side tag container ranges src dst src' dst' v v' desk jobs next version → state_of clients src' dst' v' (record { jobs = jobs; place = next; tickets = desk.tickets }) files ≡ gone_on (record (state_of clients src dst v desk files) { time = version; jobs = desk.jobs ++ new_job (length desk.jobs + 1) tag side container ranges version ∷ [] })
+started : (p : Workload) (side : Side) (tag container : Bytes) (ranges : List KeyRange) (src dst src' dst' : Database) (v v' : Versions) (clients : List ClientState) (desk : Desk) (files : Option (List File)) (jobs : List Job) (next version : ℕ) → IsStart side tag container ranges src dst src' dst' v v' desk jobs next version → state_of clients src' dst' v' (record desk { jobs = jobs; place = next }) files ≡ gone_on (record (state_of clients src dst v desk files) { time = version; jobs = desk.jobs ++ new_job (length desk.jobs + 1) tag side container ranges version ∷ [] })
 started p side tag container ranges src dst src' dst' v v' clients desk files jobs next version i =
-    ap (λ (h : List Entry). record (state_of clients src' dst' v' (record { jobs = jobs; place = next; tickets = desk.tickets }) files) { src = h }) (ap (λ (x : Database). x.history) i.src_is ∙ more_history side Src _ src)
-    ∙ ap (λ (h : List Entry). record (state_of clients src dst' v' (record { jobs = jobs; place = next; tickets = desk.tickets }) files) { dst = h }) (ap (λ (x : Database). x.history) i.dst_is ∙ more_history side Dst _ dst)
-    ∙ ap (λ (x : Versions). state_of clients src dst x (record { jobs = jobs; place = next; tickets = desk.tickets }) files) i.time
-    ∙ ap (λ (js : List Job). state_of clients src dst (record v { now = version }) (record { jobs = js; place = next; tickets = desk.tickets }) files) i.jobs_are
-    ∙ ap (λ (n : ℕ). state_of clients src dst (record v { now = version }) (record { jobs = desk.jobs ++ new_job (length desk.jobs + 1) tag side container ranges version ∷ []; place = n; tickets = desk.tickets }) files) i.next_is
+    ap (λ (h : List Entry). record (state_of clients src' dst' v' (record desk { jobs = jobs; place = next }) files) { src = h }) (ap (λ (x : Database). x.history) i.src_is ∙ more_history side Src _ src)
+    ∙ ap (λ (h : List Entry). record (state_of clients src dst' v' (record desk { jobs = jobs; place = next }) files) { dst = h }) (ap (λ (x : Database). x.history) i.dst_is ∙ more_history side Dst _ dst)
+    ∙ ap (λ (x : Versions). state_of clients src dst x (record desk { jobs = jobs; place = next }) files) i.time
+    ∙ ap (λ (js : List Job). state_of clients src dst (record v { now = version }) (record desk { jobs = js; place = next }) files) i.jobs_are
+    ∙ ap (λ (n : ℕ). state_of clients src dst (record v { now = version }) (record desk { jobs = desk.jobs ++ new_job (length desk.jobs + 1) tag side container ranges version ∷ []; place = n }) files) i.next_is
 
-pub start_done : (p : Workload) (side : Side) (tag container : Bytes) (ranges : List KeyRange) (src dst src' dst' : Database) (v v' : Versions) (clients : List ClientState) (desk : Desk) (files : Option (List File)) (jobs : List Job) (next version : ℕ) → v.pace ≡ p.settings.pace → IsStart side tag container ranges src dst src' dst' v v' desk jobs next version → IsPlan p (state_of clients src dst v desk files) (plans.Open tag side container ranges) → IsListed (state_of clients src dst v desk files) container None → (luck : Luck) × (step p (state_of clients src dst v desk files) events.Command luck ≡ moved (Ok answers.Done) (state_of clients src' dst' v' (record { jobs = jobs; place = next; tickets = desk.tickets }) files))
+pub start_done : (p : Workload) (side : Side) (tag container : Bytes) (ranges : List KeyRange) (src dst src' dst' : Database) (v v' : Versions) (clients : List ClientState) (desk : Desk) (files : Option (List File)) (jobs : List Job) (next version : ℕ) → v.pace ≡ p.settings.pace → IsStart side tag container ranges src dst src' dst' v v' desk jobs next version → IsPlan p (state_of clients src dst v desk files) (plans.Open tag side container ranges) → IsListed (state_of clients src dst v desk files) container None → (luck : Luck) × (step p (state_of clients src dst v desk files) events.Command luck ≡ moved (Ok answers.Done) (state_of clients src' dst' v' (record desk { jobs = jobs; place = next }) files))
 start_done p side tag container ranges src dst src' dst' v v' clients desk files jobs next version pace i plan listed =
     let w : State = state_of clients src dst v desk files in
     let n = next_is v.now p.settings.pace version (ap (next_version v.now) (sym pace) ∙ i.version_is) in (
@@ -161,7 +161,7 @@ start_done p side tag container ranges src dst src' dst' v v' clients desk files
           ∙ ap (moved (Ok answers.Done)) (sym (started p side tag container ranges src dst src' dst' v v' clients desk files jobs next version i)),
     )
 
-pub start_world : (p : Workload) (side : Side) (tag container : Bytes) (ranges : List KeyRange) (src dst src' dst' : Database) (v v' : Versions) (clients : List ClientState) (desk : Desk) (files : Option (List File)) (jobs : List Job) (next version : ℕ) → IsWorld p src dst v (state_of clients src dst v desk files) → IsStart side tag container ranges src dst src' dst' v v' desk jobs next version → IsPlan p (state_of clients src dst v desk files) (plans.Open tag side container ranges) → IsListed (state_of clients src dst v desk files) container None → IsWorld p src' dst' v' (state_of clients src' dst' v' (record { jobs = jobs; place = next; tickets = desk.tickets }) files)
+pub start_world : (p : Workload) (side : Side) (tag container : Bytes) (ranges : List KeyRange) (src dst src' dst' : Database) (v v' : Versions) (clients : List ClientState) (desk : Desk) (files : Option (List File)) (jobs : List Job) (next version : ℕ) → IsWorld p src dst v (state_of clients src dst v desk files) → IsStart side tag container ranges src dst src' dst' v v' desk jobs next version → IsPlan p (state_of clients src dst v desk files) (plans.Open tag side container ranges) → IsListed (state_of clients src dst v desk files) container None → IsWorld p src' dst' v' (state_of clients src' dst' v' (record desk { jobs = jobs; place = next }) files)
 start_world p side tag container ranges src dst src' dst' v v' clients desk files jobs next version h i plan listed =
     let s = start_done p side tag container ranges src dst src' dst' v v' clients desk files jobs next version h.pace i plan listed in
     record {
@@ -182,16 +182,16 @@ start_world p side tag container ranges src dst src' dst' v v' clients desk file
         (oldest_later db.oldest v.now version k (next_later v.now v.pace version i.version_is)))
 
 -- a start that was taken back
-pub start_undone : (src dst src' dst' : Database) (v v' : Versions) (clients : List ClientState) (desk : Desk) (files : Option (List File)) (jobs : List Job) → (src' ≡ src) × (dst' ≡ dst) × (v' ≡ v) → jobs ≡ desk.jobs → state_of clients src' dst' v' (record { jobs = jobs; place = desk.place; tickets = desk.tickets }) files ≡ state_of clients src dst v desk files
+pub start_undone : (src dst src' dst' : Database) (v v' : Versions) (clients : List ClientState) (desk : Desk) (files : Option (List File)) (jobs : List Job) → (src' ≡ src) × (dst' ≡ dst) × (v' ≡ v) → jobs ≡ desk.jobs → state_of clients src' dst' v' (record desk { jobs = jobs; place = desk.place }) files ≡ state_of clients src dst v desk files
 start_undone src dst src' dst' v v' clients desk files jobs e j =
-    ap (λ (x : Database). state_of clients x dst' v' (record { jobs = jobs; place = desk.place; tickets = desk.tickets }) files) e.0
-    ∙ ap (λ (x : Database). state_of clients src x v' (record { jobs = jobs; place = desk.place; tickets = desk.tickets }) files) e.1
-    ∙ ap (λ (x : Versions). state_of clients src dst x (record { jobs = jobs; place = desk.place; tickets = desk.tickets }) files) e.2
-    ∙ ap (λ (js : List Job). state_of clients src dst v (record { jobs = js; place = desk.place; tickets = desk.tickets }) files) j
+    ap (λ (x : Database). state_of clients x dst' v' (record desk { jobs = jobs; place = desk.place }) files) e.0
+    ∙ ap (λ (x : Database). state_of clients src x v' (record desk { jobs = jobs; place = desk.place }) files) e.1
+    ∙ ap (λ (x : Versions). state_of clients src dst x (record desk { jobs = jobs; place = desk.place }) files) e.2
+    ∙ ap (λ (js : List Job). state_of clients src dst v (record desk { jobs = js; place = desk.place }) files) j
 
-pub start_undone_world : (p : Workload) (src dst src' dst' : Database) (v v' : Versions) (clients : List ClientState) (desk : Desk) (files : Option (List File)) (jobs : List Job) → (src' ≡ src) × (dst' ≡ dst) × (v' ≡ v) → jobs ≡ desk.jobs → IsWorld p src dst v (state_of clients src dst v desk files) → IsWorld p src' dst' v' (state_of clients src' dst' v' (record { jobs = jobs; place = desk.place; tickets = desk.tickets }) files)
+pub start_undone_world : (p : Workload) (src dst src' dst' : Database) (v v' : Versions) (clients : List ClientState) (desk : Desk) (files : Option (List File)) (jobs : List Job) → (src' ≡ src) × (dst' ≡ dst) × (v' ≡ v) → jobs ≡ desk.jobs → IsWorld p src dst v (state_of clients src dst v desk files) → IsWorld p src' dst' v' (state_of clients src' dst' v' (record desk { jobs = jobs; place = desk.place }) files)
 start_undone_world p src dst src' dst' v v' clients desk files jobs e j h =
-    let P : Database → Database → Versions → List Job → Type 0 = λ x y z js. IsWorld p x y z (state_of clients x y z (record { jobs = js; place = desk.place; tickets = desk.tickets }) files) in
+    let P : Database → Database → Versions → List Job → Type 0 = λ x y z js. IsWorld p x y z (state_of clients x y z (record desk { jobs = js; place = desk.place }) files) in
     subst (λ (js : List Job). P src' dst' v' js) (sym j) (subst (λ (z : Versions). P src' dst' z desk.jobs) (sym e.2) (subst (λ (y : Database). P src' y v desk.jobs) (sym e.1) (subst (λ (x : Database). P x dst v desk.jobs) (sym e.0) h)))
 
 -- the jobs without the one that was pushed

@@ -9,8 +9,8 @@ use Rattle.database.specs.Commits.{most_version}
 use Rattle.cluster_core.specs.declared.event.Answer.TheVariants as answers
 use Rattle.cluster_core.specs.declared.plan.Filing.{Filing}
 use Rattle.cluster_core.specs.declared.plan.Plan.{Plan}
-use Rattle.cluster_core.specs.declared.plan.Plan.TheVariants.{Nothing, Refuse, Tell, Put, Abort}
-use Rattle.cluster_core.specs.declared.plan.Plan.TheVariants.{Open}
+use Rattle.cluster_core.specs.declared.plan.Plan.TheVariants.{Nothing, Refuse, Tell, Put, Pause}
+use Rattle.cluster_core.specs.declared.plan.Plan.TheVariants.{Abort, Open}
 use Rattle.cluster_core.specs.declared.plan.Running.{Running}
 use Rattle.cluster_core.specs.declared.plan.Running.TheVariants.{At, Refused}
 use Rattle.cluster_core.specs.declared.planning.JobCommand.{JobCommand}
@@ -25,6 +25,7 @@ use Rattle.cluster_core.specs.Moves.{Luck, Moved, moved}
 use Rattle.cluster_core.specs.commands.Shared.{gone_on, refuses, done, putting}
 use Rattle.cluster_core.specs.commands.Abort.{with_abort}
 use Rattle.cluster_core.specs.commands.Open.{open_listed}
+use Rattle.cluster_core.specs.commands.Pause.{set_paused}
 use Rattle.cluster_core.specs.commands.Shared.{on_job}
 use Rattle.cluster_core.specs.Operator.{command_gives}
 use Rattle.cluster_core.specs.inner.Filed.{changed, CanChange}
@@ -47,6 +48,7 @@ abbrev pub planned : Settings → State → Luck → Plan → Moved
 planned settings state luck Nothing = moved (Ok answers.Nothing) state
 planned settings state luck (Refuse refusal) = refuses refusal state
 planned settings state luck (Tell told) = moved (Ok (answers.State told)) (gone_on state)
+planned settings state luck (Pause paused) = set_paused state paused
 planned settings state luck (Put filing) =
     files state filing luck (slice_get state.jobs filing.place)
 planned settings state luck (Abort place) = aborts state place (slice_get state.jobs place)
@@ -86,6 +88,7 @@ abbrev pub IsSafe : State → Plan → Type 0
 IsSafe state Nothing = Unit {0}
 IsSafe state (Refuse refusal) = Unit {0}
 IsSafe state (Tell told) = Unit {0}
+IsSafe state (Pause paused) = Unit {0}
 IsSafe state (Put filing) = IsFiling state filing
 IsSafe state (Abort place) = (job : Job) × (slice_get state.jobs place ≡ Some job)
 IsSafe state (Open tag side container ranges) = Unit {0}

@@ -26,15 +26,17 @@ use Rattle.client_core.specs.Clients.{ClientState, begun_client, Try, commit_try
 use Rattle.cluster_core.specs.declared.job.Job.{Job}
 use Rattle.cluster_core.specs.Jobs.{logs_of}
 use Rattle.cluster_core.specs.State.{State, client_at}
+use Rattle.cluster_core.specs.declared.event.Event.{Event}
 use Rattle.cluster_core.specs.declared.event.Event.TheVariants as events
 use Rattle.cluster_core.specs.declared.event.StepFault.{StepFault}
 use Rattle.cluster_core.specs.declared.event.StepFault.TheVariants.{NoMemory}
-use Rattle.cluster_core.specs.Moves.{Luck, moved}
+use Rattle.cluster_core.specs.Moves.{Luck, Fine, Silent, moved}
 use Rattle.cluster_core.specs.commands.Open.{names_listed}
 use Rattle.cluster_core.specs.events.Commit.{commit}
-use Rattle.cluster_core.specs.Step.{step}
+use Rattle.cluster_core.specs.Step.{event_gives, step}
 use Rattle.cluster_core.specs.Sound.{Sound}
 use Rattle.cluster_core.specs.World.{Seen}
+use Rattle.cluster_core.specs.inner.Crew.{Crew}
 
 -- a workload's commands are allowed in one way alone, so that fact has a code
 abbrev pub allowed_code : (settings : Settings) (clients : List ClientScript)
@@ -53,11 +55,13 @@ abbrev pub OperatorSteps : Seen → Result Answer StepFault → Seen → Type 0
 OperatorSteps old result new =
     (luck : Luck) × (step old.workload old.state events.Command luck ≡ moved result new.state)
 
--- what the operator has: its jobs, how many of its commands have ended, and the next ticket
+-- what the operator has: its jobs, how many of its commands have ended, the next ticket, and the
+-- agents with the tasks that they claim
 pub record Desk : Type 0 where
   pub jobs : List Job
   pub place : ℕ
   pub tickets : ℕ
+  pub crew : Crew
 
 -- the machine's state, of the parts that keep it
 abbrev pub state_of : List ClientState → Database → Database → Versions → Desk → Option (List File)
@@ -71,6 +75,10 @@ state_of clients src dst versions desk files =
       jobs = desk.jobs;
       place = desk.place;
       tickets = desk.tickets;
+      bucket = desk.crew.bucket;
+      uids = desk.crew.uids;
+      paused = desk.crew.paused;
+      agents = desk.crew.agents;
       files = files;
     }
 
@@ -110,6 +118,12 @@ answer_of (Some outcome) = answers.Outcome outcome
 abbrev pub CommitSteps : Settings → State → ℕ → Result Answer StepFault → State → Type 0
 CommitSteps settings old number (Ok answer) new = commit settings old number ≡ moved (Ok answer) new
 CommitSteps settings old number (Err fault) new = (fault ≡ NoMemory) × (new ≡ old)
+
+-- and so with an agent's event
+abbrev pub AgentSteps : Workload → State → Event → Result Answer StepFault → State → Type 0
+AgentSteps workload old event (Ok answer) new =
+    event_gives workload old (Fine Silent) event ≡ moved (Ok answer) new
+AgentSteps workload old event (Err fault) new = (fault ≡ NoMemory) × (new ≡ old)
 
 -- the database of one side with a log more, where the log is of that side
 abbrev pub logs_more : Side → Side → JobLog → Database → Database

@@ -21,8 +21,8 @@ invariant_of-self g c =
     let here : c.index_mut.result.now ≡ safe.0 = got c.self.inside.jobs.items c.args.place safe.0 c.index_mut.result.now safe.1 (c.index_mut.ensures.value) in
     let side : c.side-side.result ≡ (terms_of safe.0).side = c.side-side.ensures ∙ ap (λ (j : Job). (terms_of j).side) (got c.self.inside.jobs.items c.args.place safe.0 c.index.result.now safe.1 (c.index.ensures)) in
     let job : c.abort.new.self ≡ with_abort safe.0 = c.abort.ensures ∙ ap with_abort here in
-    subst (λ (j : Job). IsWorld c.self.inside.workload c.end_log.new.src c.end_log.new.dst c.self.inside.versions (state_of c.self.inside.clients.items c.end_log.new.src c.end_log.new.dst c.self.inside.versions (record { jobs = slice_set c.self.inside.jobs.items c.args.place j; place = c.next_place-self-inside.result; tickets = c.self.inside.tickets }) (g.V.Vault.files c.self.inside.vault))) (sym job)
-    (abort_world c.self.inside.workload c.side-side.result c.self.inside.src c.self.inside.dst c.end_log.new.src c.end_log.new.dst c.self.inside.versions c.self.inside.clients.items (record { jobs = c.self.inside.jobs.items; place = c.self.inside.place; tickets = c.self.inside.tickets }) (g.V.Vault.files c.self.inside.vault) c.args.place c.next_place-self-inside.result safe.0 c.end_log.ensures.src c.end_log.ensures.dst (c.next_place-self-inside.ensures room) c.self.invariant plan safe.1 side)
+    subst (λ (j : Job). IsWorld c.self.inside.workload c.end_log.new.src c.end_log.new.dst c.self.inside.versions (state_of c.self.inside.clients.items c.end_log.new.src c.end_log.new.dst c.self.inside.versions (record { jobs = slice_set c.self.inside.jobs.items c.args.place j; place = c.next_place-self-inside.result; tickets = c.self.inside.tickets; crew = c.self.inside.crew }) (g.V.Vault.files c.self.inside.vault))) (sym job)
+    (abort_world c.self.inside.workload c.side-side.result c.self.inside.src c.self.inside.dst c.end_log.new.src c.end_log.new.dst c.self.inside.versions c.self.inside.clients.items (record { jobs = c.self.inside.jobs.items; place = c.self.inside.place; tickets = c.self.inside.tickets; crew = c.self.inside.crew }) (g.V.Vault.files c.self.inside.vault) c.args.place c.next_place-self-inside.result safe.0 c.end_log.ensures.src c.end_log.ensures.dst (c.next_place-self-inside.ensures room) c.self.invariant plan safe.1 side)
 
 pub returns-clause-step : goal.returns-clause-step
 returns-clause-step g c =
@@ -32,6 +32,6 @@ returns-clause-step g c =
     let here : c.index_mut.result.now ≡ safe.0 = got c.self.inside.jobs.items c.args.place safe.0 c.index_mut.result.now safe.1 (c.index_mut.ensures.value) in
     let side : c.side-side.result ≡ (terms_of safe.0).side = c.side-side.ensures ∙ ap (λ (j : Job). (terms_of j).side) (got c.self.inside.jobs.items c.args.place safe.0 c.index.result.now safe.1 (c.index.ensures)) in
     let job : c.abort.new.self ≡ with_abort safe.0 = c.abort.ensures ∙ ap with_abort here in
-    subst (λ (seen : Seen). step seen.workload seen.state events.Command (Fine Silent) ≡ moved (Ok answers.Done) (state_of c.self.inside.clients.items c.end_log.new.src c.end_log.new.dst c.self.inside.versions (record { jobs = slice_set c.self.inside.jobs.items c.args.place c.abort.new.self; place = c.next_place-self-inside.result; tickets = c.self.inside.tickets }) (g.V.Vault.files c.self.inside.vault))) c.self.view_is
-    (subst (λ (j : Job). step c.self.inside.workload (state_of c.self.inside.clients.items c.self.inside.src c.self.inside.dst c.self.inside.versions (record { jobs = c.self.inside.jobs.items; place = c.self.inside.place; tickets = c.self.inside.tickets }) (g.V.Vault.files c.self.inside.vault)) events.Command (Fine Silent) ≡ moved (Ok answers.Done) (state_of c.self.inside.clients.items c.end_log.new.src c.end_log.new.dst c.self.inside.versions (record { jobs = slice_set c.self.inside.jobs.items c.args.place j; place = c.next_place-self-inside.result; tickets = c.self.inside.tickets }) (g.V.Vault.files c.self.inside.vault))) (sym job)
-    (abort_state c.self.inside.workload c.side-side.result c.self.inside.src c.self.inside.dst c.end_log.new.src c.end_log.new.dst c.self.inside.versions c.self.inside.clients.items (record { jobs = c.self.inside.jobs.items; place = c.self.inside.place; tickets = c.self.inside.tickets }) (g.V.Vault.files c.self.inside.vault) c.args.place c.next_place-self-inside.result safe.0 c.end_log.ensures.src c.end_log.ensures.dst (c.next_place-self-inside.ensures room) plan safe.1))
+    subst (λ (seen : Seen). step seen.workload seen.state events.Command (Fine Silent) ≡ moved (Ok answers.Done) (state_of c.self.inside.clients.items c.end_log.new.src c.end_log.new.dst c.self.inside.versions (record { jobs = slice_set c.self.inside.jobs.items c.args.place c.abort.new.self; place = c.next_place-self-inside.result; tickets = c.self.inside.tickets; crew = c.self.inside.crew }) (g.V.Vault.files c.self.inside.vault))) c.self.view_is
+    (subst (λ (j : Job). step c.self.inside.workload (state_of c.self.inside.clients.items c.self.inside.src c.self.inside.dst c.self.inside.versions (record { jobs = c.self.inside.jobs.items; place = c.self.inside.place; tickets = c.self.inside.tickets; crew = c.self.inside.crew }) (g.V.Vault.files c.self.inside.vault)) events.Command (Fine Silent) ≡ moved (Ok answers.Done) (state_of c.self.inside.clients.items c.end_log.new.src c.end_log.new.dst c.self.inside.versions (record { jobs = slice_set c.self.inside.jobs.items c.args.place j; place = c.next_place-self-inside.result; tickets = c.self.inside.tickets; crew = c.self.inside.crew }) (g.V.Vault.files c.self.inside.vault))) (sym job)
+    (abort_state c.self.inside.workload c.side-side.result c.self.inside.src c.self.inside.dst c.end_log.new.src c.end_log.new.dst c.self.inside.versions c.self.inside.clients.items (record { jobs = c.self.inside.jobs.items; place = c.self.inside.place; tickets = c.self.inside.tickets; crew = c.self.inside.crew }) (g.V.Vault.files c.self.inside.vault) c.args.place c.next_place-self-inside.result safe.0 c.end_log.ensures.src c.end_log.ensures.dst (c.next_place-self-inside.ensures room) plan safe.1))

@@ -1,6 +1,6 @@
 use Rattle.std.proofs.Common.{subst}
 use Rattle.cluster_core.specs.inner.Plans.{IsPlan, IsSafe}
-use Rattle.cluster_core.proofs.plans.Operator.{refuse_room, tell_room, put_room, abort_room, open_room}
+use Rattle.cluster_core.proofs.plans.Operator.{refuse_room, tell_room, pause_room, put_room, abort_room, open_room}
 use Rattle.cluster_core.proofs.world.World.operate.Goals as goal
 
 pub go_on-requires-after_bounds : goal.go_on-requires-after_bounds
@@ -8,6 +8,9 @@ go_on-requires-after_bounds g c κs within = refuse_room c.args.self.now.workloa
 
 pub go_on-requires-in-Tell-after_bounds : goal.go_on-requires-in-Tell-after_bounds
 go_on-requires-in-Tell-after_bounds g c κs within = tell_room c.args.self.now.workload c.args.self.now.state c.in-Tell.state (subst (IsPlan c.args.self.now.workload c.args.self.now.state) c.in-Tell.is c.in_ok-plan.ensures.plan)
+
+pub pause-requires-after_bounds : goal.pause-requires-after_bounds
+pause-requires-after_bounds g c κs within = pause_room c.args.self.now.workload c.args.self.now.state c.in-Pause.paused (subst (IsPlan c.args.self.now.workload c.args.self.now.state) c.in-Pause.is c.in_ok-plan.ensures.plan)
 
 pub put-requires-clause-room : goal.put-requires-clause-room
 put-requires-clause-room g c κs within = put_room c.args.self.now.workload c.args.self.now.state c.in-Put.filing (subst (IsPlan c.args.self.now.workload c.args.self.now.state) c.in-Put.is c.in_ok-plan.ensures.plan) (subst (IsSafe c.args.self.now.state) c.in-Put.is c.in_ok-plan.ensures.safe)

@@ -31,7 +31,7 @@ go_ahead-requires-clause-can g c =
 
 pub invariant_of-self-in-Ok : goal.invariant_of-self-in-Ok
 invariant_of-self-in-Ok g c =
-    let old : State = state_of c.self.inside.clients.items c.self.inside.src c.self.inside.dst c.self.inside.versions (record { jobs = c.self.inside.jobs.items; place = c.self.inside.place; tickets = c.self.inside.tickets }) (g.V.Vault.files c.self.inside.vault) in
+    let old : State = state_of c.self.inside.clients.items c.self.inside.src c.self.inside.dst c.self.inside.versions (record { jobs = c.self.inside.jobs.items; place = c.self.inside.place; tickets = c.self.inside.tickets; crew = c.self.inside.crew }) (g.V.Vault.files c.self.inside.vault) in
     let plan = subst (λ (seen : Seen). IsPlan seen.workload seen.state (plans.Put c.args.filing)) (sym c.self.view_is) c.requires.plan in
     let safe = subst (λ (seen : Seen). IsSafe seen.state (plans.Put c.args.filing)) (sym c.self.view_is) c.requires.safe in
     let room = subst (λ (n : ℕ). c.self.inside.place < n) (sym c.len.ensures) (subst (λ (seen : Seen). seen.state.place < length seen.workload.operator) (sym c.self.view_is) c.requires.room) in
@@ -42,7 +42,7 @@ invariant_of-self-in-Ok g c =
 
 pub returns-in-Ok-clause-step : goal.returns-in-Ok-clause-step
 returns-in-Ok-clause-step g c =
-    let old : State = state_of c.self.inside.clients.items c.self.inside.src c.self.inside.dst c.self.inside.versions (record { jobs = c.self.inside.jobs.items; place = c.self.inside.place; tickets = c.self.inside.tickets }) (g.V.Vault.files c.self.inside.vault) in
+    let old : State = state_of c.self.inside.clients.items c.self.inside.src c.self.inside.dst c.self.inside.versions (record { jobs = c.self.inside.jobs.items; place = c.self.inside.place; tickets = c.self.inside.tickets; crew = c.self.inside.crew }) (g.V.Vault.files c.self.inside.vault) in
     let plan = subst (λ (seen : Seen). IsPlan seen.workload seen.state (plans.Put c.args.filing)) (sym c.self.view_is) c.requires.plan in
     let safe = subst (λ (seen : Seen). IsSafe seen.state (plans.Put c.args.filing)) (sym c.self.view_is) c.requires.safe in
     let room = subst (λ (n : ℕ). c.self.inside.place < n) (sym c.len.ensures) (subst (λ (seen : Seen). seen.state.place < length seen.workload.operator) (sym c.self.view_is) c.requires.room) in
@@ -57,7 +57,7 @@ returns-in-Ok-clause-step g c =
 
 pub invariant_of-self-in-Err-Failed : goal.invariant_of-self-in-Err-Failed
 invariant_of-self-in-Err-Failed g c =
-    let old : State = state_of c.self.inside.clients.items c.self.inside.src c.self.inside.dst c.self.inside.versions (record { jobs = c.self.inside.jobs.items; place = c.self.inside.place; tickets = c.self.inside.tickets }) (g.V.Vault.files c.self.inside.vault) in
+    let old : State = state_of c.self.inside.clients.items c.self.inside.src c.self.inside.dst c.self.inside.versions (record { jobs = c.self.inside.jobs.items; place = c.self.inside.place; tickets = c.self.inside.tickets; crew = c.self.inside.crew }) (g.V.Vault.files c.self.inside.vault) in
     let plan = subst (λ (seen : Seen). IsPlan seen.workload seen.state (plans.Put c.args.filing)) (sym c.self.view_is) c.requires.plan in
     let safe = subst (λ (seen : Seen). IsSafe seen.state (plans.Put c.args.filing)) (sym c.self.view_is) c.requires.safe in
     let files = subst (λ (b : Bytes). (g.V.Vault.files c.put.new.self ≡ g.V.Vault.files c.self.inside.vault) ⊎ (g.V.Vault.files c.put.new.self ≡ with_put c.args.filing.whole b (g.V.Vault.files c.self.inside.vault))) c.as_slice.ensures.same (failed_files c.args.filing.whole c.as_slice.result.now (g.V.Vault.files c.self.inside.vault) (g.V.Vault.files c.put.new.self) (c.put.ensures.failed (c.in-Err-Failed.is ∙ ap Err c.in-Err-Failed.field-0-is)) c.put.ensures.silent) in
@@ -67,7 +67,7 @@ invariant_of-self-in-Err-Failed g c =
 
 pub returns-in-Err-Failed-clause-step : goal.returns-in-Err-Failed-clause-step
 returns-in-Err-Failed-clause-step g c =
-    let old : State = state_of c.self.inside.clients.items c.self.inside.src c.self.inside.dst c.self.inside.versions (record { jobs = c.self.inside.jobs.items; place = c.self.inside.place; tickets = c.self.inside.tickets }) (g.V.Vault.files c.self.inside.vault) in
+    let old : State = state_of c.self.inside.clients.items c.self.inside.src c.self.inside.dst c.self.inside.versions (record { jobs = c.self.inside.jobs.items; place = c.self.inside.place; tickets = c.self.inside.tickets; crew = c.self.inside.crew }) (g.V.Vault.files c.self.inside.vault) in
     let plan = subst (λ (seen : Seen). IsPlan seen.workload seen.state (plans.Put c.args.filing)) (sym c.self.view_is) c.requires.plan in
     let safe = subst (λ (seen : Seen). IsSafe seen.state (plans.Put c.args.filing)) (sym c.self.view_is) c.requires.safe in
     let files = subst (λ (b : Bytes). (g.V.Vault.files c.put.new.self ≡ g.V.Vault.files c.self.inside.vault) ⊎ (g.V.Vault.files c.put.new.self ≡ with_put c.args.filing.whole b (g.V.Vault.files c.self.inside.vault))) c.as_slice.ensures.same (failed_files c.args.filing.whole c.as_slice.result.now (g.V.Vault.files c.self.inside.vault) (g.V.Vault.files c.put.new.self) (c.put.ensures.failed (c.in-Err-Failed.is ∙ ap Err c.in-Err-Failed.field-0-is)) c.put.ensures.silent) in
@@ -81,7 +81,7 @@ returns-in-Err-Failed-clause-step g c =
 
 pub invariant_of-self : goal.invariant_of-self
 invariant_of-self g c =
-    let old : State = state_of c.self.inside.clients.items c.self.inside.src c.self.inside.dst c.self.inside.versions (record { jobs = c.self.inside.jobs.items; place = c.self.inside.place; tickets = c.self.inside.tickets }) (g.V.Vault.files c.self.inside.vault) in
+    let old : State = state_of c.self.inside.clients.items c.self.inside.src c.self.inside.dst c.self.inside.versions (record { jobs = c.self.inside.jobs.items; place = c.self.inside.place; tickets = c.self.inside.tickets; crew = c.self.inside.crew }) (g.V.Vault.files c.self.inside.vault) in
     subst (λ (js : List Job). IsWorld c.self.inside.workload c.self.inside.src c.self.inside.dst c.self.inside.versions (record old { jobs = js })) (sym c.in_err-snapshot.ensures.err) c.self.invariant
 
 pub settle-requires-clause-at : goal.settle-requires-clause-at
@@ -96,7 +96,7 @@ take_back-requires-in-Err-NoMemory g c = record { at = (_, ahead_there c.self.in
 
 pub invariant_of-self-in-Err-NoMemory : goal.invariant_of-self-in-Err-NoMemory
 invariant_of-self-in-Err-NoMemory g c =
-    let old : State = state_of c.self.inside.clients.items c.self.inside.src c.self.inside.dst c.self.inside.versions (record { jobs = c.self.inside.jobs.items; place = c.self.inside.place; tickets = c.self.inside.tickets }) (g.V.Vault.files c.self.inside.vault) in
+    let old : State = state_of c.self.inside.clients.items c.self.inside.src c.self.inside.dst c.self.inside.versions (record { jobs = c.self.inside.jobs.items; place = c.self.inside.place; tickets = c.self.inside.tickets; crew = c.self.inside.crew }) (g.V.Vault.files c.self.inside.vault) in
     let jobs : c.take_back-in-Err-NoMemory.new.jobs.items ≡ c.self.inside.jobs.items = unfiled c.self.inside.jobs.items c.go_ahead.new.jobs.items c.take_back-in-Err-NoMemory.new.jobs.items c.args.filing.place c.args.filing.change c.in_ok-snapshot.snapshot c.in_ok-snapshot.ensures.ok c.take_back-in-Err-NoMemory.ensures in
     let files : g.V.Vault.files c.put.new.self ≡ g.V.Vault.files c.self.inside.vault = c.put.ensures.no_memory (c.in-Err-NoMemory.is ∙ ap Err c.in-Err-NoMemory.field-0-is) in
     subst (λ (js : List Job). IsWorld c.self.inside.workload c.self.inside.src c.self.inside.dst c.self.inside.versions (record old { jobs = js; files = g.V.Vault.files c.put.new.self })) (sym jobs)
@@ -104,7 +104,7 @@ invariant_of-self-in-Err-NoMemory g c =
 
 pub returns-clause-step : goal.returns-clause-step
 returns-clause-step g c =
-    let old : State = state_of c.self.inside.clients.items c.self.inside.src c.self.inside.dst c.self.inside.versions (record { jobs = c.self.inside.jobs.items; place = c.self.inside.place; tickets = c.self.inside.tickets }) (g.V.Vault.files c.self.inside.vault) in
+    let old : State = state_of c.self.inside.clients.items c.self.inside.src c.self.inside.dst c.self.inside.versions (record { jobs = c.self.inside.jobs.items; place = c.self.inside.place; tickets = c.self.inside.tickets; crew = c.self.inside.crew }) (g.V.Vault.files c.self.inside.vault) in
     let jobs : c.take_back-in-Err-NoMemory.new.jobs.items ≡ c.self.inside.jobs.items = unfiled c.self.inside.jobs.items c.go_ahead.new.jobs.items c.take_back-in-Err-NoMemory.new.jobs.items c.args.filing.place c.args.filing.change c.in_ok-snapshot.snapshot c.in_ok-snapshot.ensures.ok c.take_back-in-Err-NoMemory.ensures in
     let files : g.V.Vault.files c.put.new.self ≡ g.V.Vault.files c.self.inside.vault = c.put.ensures.no_memory (c.in-Err-NoMemory.is ∙ ap Err c.in-Err-NoMemory.field-0-is) in
     let new : State = record old { jobs = c.take_back-in-Err-NoMemory.new.jobs.items; files = g.V.Vault.files c.put.new.self } in (
@@ -116,7 +116,7 @@ returns-clause-step g c =
 
 pub returns-in_err-snapshot-clause-step : goal.returns-in_err-snapshot-clause-step
 returns-in_err-snapshot-clause-step g c =
-    let old : State = state_of c.self.inside.clients.items c.self.inside.src c.self.inside.dst c.self.inside.versions (record { jobs = c.self.inside.jobs.items; place = c.self.inside.place; tickets = c.self.inside.tickets }) (g.V.Vault.files c.self.inside.vault) in
+    let old : State = state_of c.self.inside.clients.items c.self.inside.src c.self.inside.dst c.self.inside.versions (record { jobs = c.self.inside.jobs.items; place = c.self.inside.place; tickets = c.self.inside.tickets; crew = c.self.inside.crew }) (g.V.Vault.files c.self.inside.vault) in
     let same : record old { jobs = c.go_ahead.new.jobs.items } ≡ old = ap (λ (js : List Job). record old { jobs = js }) c.in_err-snapshot.ensures.err in
     let p = err_from_is_err_and c.from_residual.result c.from_residual.ensures.1 in
     starved_step c.args.self.now.workload c.args.self.now.state (record old { jobs = c.go_ahead.new.jobs.items }) c.from_residual.result (p.1 ∙ ap Err p.2) (same ∙ ap (λ (s : Seen). s.state) c.self.view_is)

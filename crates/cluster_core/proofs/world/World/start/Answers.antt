@@ -31,7 +31,7 @@ pub returns-in_default-clause-step : goal.returns-in_default-clause-step
 returns-in_default-clause-step g c =
     let plan = subst (λ (seen : Seen). IsPlan seen.workload seen.state (plans.Open c.args.tag c.args.side c.args.container c.args.ranges.now)) (sym c.self.view_is) c.requires.plan in
     let listed = subst (λ (seen : Seen). IsListed seen.state c.args.container None) (sym c.self.view_is) c.requires.empty in
-    let spent = start_spent c.self.inside.workload c.args.side c.args.tag c.args.container c.args.ranges.now (state_of c.self.inside.clients.items c.self.inside.src c.self.inside.dst c.self.inside.versions (record { jobs = c.self.inside.jobs.items; place = c.self.inside.place; tickets = c.self.inside.tickets }) (g.V.Vault.files c.self.inside.vault)) (subst (λ (n : ℕ). nat_lt most_version (c.self.inside.versions.now + n) ≡ true) c.self.invariant.pace (none_next c.self.inside.versions.now c.self.inside.versions.pace c.next.result c.next.ensures c.in_default.is)) plan listed in
+    let spent = start_spent c.self.inside.workload c.args.side c.args.tag c.args.container c.args.ranges.now (state_of c.self.inside.clients.items c.self.inside.src c.self.inside.dst c.self.inside.versions (record { jobs = c.self.inside.jobs.items; place = c.self.inside.place; tickets = c.self.inside.tickets; crew = c.self.inside.crew }) (g.V.Vault.files c.self.inside.vault)) (subst (λ (n : ℕ). nat_lt most_version (c.self.inside.versions.now + n) ≡ true) c.self.invariant.pace (none_next c.self.inside.versions.now c.self.inside.versions.pace c.next.result c.next.ensures c.in_default.is)) plan listed in
     (spent.0, subst (λ (seen : Seen). step seen.workload seen.state events.Command spent.0 ≡ moved (Err (VersionsSpent c.self.inside.versions.now)) seen.state) c.self.view_is spent.1)
 
 pub invariant_of-self-in-Ok-begin_log : goal.invariant_of-self-in-Ok-begin_log
@@ -39,7 +39,7 @@ invariant_of-self-in-Ok-begin_log g c =
     let plan = subst (λ (seen : Seen). IsPlan seen.workload seen.state (plans.Open c.args.tag c.args.side c.args.container c.args.ranges.now)) (sym c.self.view_is) c.requires.plan in
     let listed = subst (λ (seen : Seen). IsListed seen.state c.args.container None) (sym c.self.view_is) c.requires.empty in
     let room = subst (λ (n : ℕ). c.self.inside.place < n) (sym c.len.ensures) (subst (λ (seen : Seen). seen.state.place < length seen.workload.operator) (sym c.self.view_is) c.requires.room) in
-    let start : IsStart c.args.side c.args.tag c.args.container c.args.ranges.now c.self.inside.src c.self.inside.dst c.begin_log.new.src c.begin_log.new.dst c.self.inside.versions c.begin_log.new.versions (record { jobs = c.self.inside.jobs.items; place = c.self.inside.place; tickets = c.self.inside.tickets }) c.push.new.self.items c.next_place-self-inside.result c.in-Ok-begin_log.field-0 = record {
+    let start : IsStart c.args.side c.args.tag c.args.container c.args.ranges.now c.self.inside.src c.self.inside.dst c.begin_log.new.src c.begin_log.new.dst c.self.inside.versions c.begin_log.new.versions (record { jobs = c.self.inside.jobs.items; place = c.self.inside.place; tickets = c.self.inside.tickets; crew = c.self.inside.crew }) c.push.new.self.items c.next_place-self-inside.result c.in-Ok-begin_log.field-0 = record {
       number = c.len-count.result + 1;
       number_is = ap (λ (n : ℕ). n + 1) (c.len-count.ensures ∙ c.self.inside.jobs.ok.0);
       src_is = c.in-Ok-begin_log.ensures.src;
@@ -49,14 +49,14 @@ invariant_of-self-in-Ok-begin_log g c =
       jobs_are = c.in-Ok.ensures.items ∙ ap (λ (j : Job). c.self.inside.jobs.items ++ j ∷ []) (ap (λ (b : Backup). types.Backup b) (c.new-backup.ensures ∙ ap (λ (h : BackupJob). record { tag = c.args.tag; side = c.args.side; container = c.args.container; job = h }) c.in_ok-job.ensures) ∙ ap (λ (n : ℕ). new_job (n + 1) c.args.tag c.args.side c.args.container c.args.ranges.now c.in-Some.version) (c.len-count.ensures ∙ c.self.inside.jobs.ok.0) ∙ ap (new_job (length c.self.inside.jobs.items + 1) c.args.tag c.args.side c.args.container c.args.ranges.now) (next_same c.self.inside.versions.now c.self.inside.versions.pace c.in-Some.version c.in-Ok-begin_log.field-0 c.next.result c.next.ensures c.in-Some.is c.in-Ok-begin_log.ensures.version));
       next_is = c.next_place-self-inside.ensures room;
     } in
-    start_world c.self.inside.workload c.args.side c.args.tag c.args.container c.args.ranges.now c.self.inside.src c.self.inside.dst c.begin_log.new.src c.begin_log.new.dst c.self.inside.versions c.begin_log.new.versions c.self.inside.clients.items (record { jobs = c.self.inside.jobs.items; place = c.self.inside.place; tickets = c.self.inside.tickets }) (g.V.Vault.files c.self.inside.vault) c.push.new.self.items c.next_place-self-inside.result c.in-Ok-begin_log.field-0 c.self.invariant start plan listed
+    start_world c.self.inside.workload c.args.side c.args.tag c.args.container c.args.ranges.now c.self.inside.src c.self.inside.dst c.begin_log.new.src c.begin_log.new.dst c.self.inside.versions c.begin_log.new.versions c.self.inside.clients.items (record { jobs = c.self.inside.jobs.items; place = c.self.inside.place; tickets = c.self.inside.tickets; crew = c.self.inside.crew }) (g.V.Vault.files c.self.inside.vault) c.push.new.self.items c.next_place-self-inside.result c.in-Ok-begin_log.field-0 c.self.invariant start plan listed
 
 pub returns-in-Ok-begin_log-clause-step : goal.returns-in-Ok-begin_log-clause-step
 returns-in-Ok-begin_log-clause-step g c =
     let plan = subst (λ (seen : Seen). IsPlan seen.workload seen.state (plans.Open c.args.tag c.args.side c.args.container c.args.ranges.now)) (sym c.self.view_is) c.requires.plan in
     let listed = subst (λ (seen : Seen). IsListed seen.state c.args.container None) (sym c.self.view_is) c.requires.empty in
     let room = subst (λ (n : ℕ). c.self.inside.place < n) (sym c.len.ensures) (subst (λ (seen : Seen). seen.state.place < length seen.workload.operator) (sym c.self.view_is) c.requires.room) in
-    let start : IsStart c.args.side c.args.tag c.args.container c.args.ranges.now c.self.inside.src c.self.inside.dst c.begin_log.new.src c.begin_log.new.dst c.self.inside.versions c.begin_log.new.versions (record { jobs = c.self.inside.jobs.items; place = c.self.inside.place; tickets = c.self.inside.tickets }) c.push.new.self.items c.next_place-self-inside.result c.in-Ok-begin_log.field-0 = record {
+    let start : IsStart c.args.side c.args.tag c.args.container c.args.ranges.now c.self.inside.src c.self.inside.dst c.begin_log.new.src c.begin_log.new.dst c.self.inside.versions c.begin_log.new.versions (record { jobs = c.self.inside.jobs.items; place = c.self.inside.place; tickets = c.self.inside.tickets; crew = c.self.inside.crew }) c.push.new.self.items c.next_place-self-inside.result c.in-Ok-begin_log.field-0 = record {
       number = c.len-count.result + 1;
       number_is = ap (λ (n : ℕ). n + 1) (c.len-count.ensures ∙ c.self.inside.jobs.ok.0);
       src_is = c.in-Ok-begin_log.ensures.src;
@@ -66,15 +66,15 @@ returns-in-Ok-begin_log-clause-step g c =
       jobs_are = c.in-Ok.ensures.items ∙ ap (λ (j : Job). c.self.inside.jobs.items ++ j ∷ []) (ap (λ (b : Backup). types.Backup b) (c.new-backup.ensures ∙ ap (λ (h : BackupJob). record { tag = c.args.tag; side = c.args.side; container = c.args.container; job = h }) c.in_ok-job.ensures) ∙ ap (λ (n : ℕ). new_job (n + 1) c.args.tag c.args.side c.args.container c.args.ranges.now c.in-Some.version) (c.len-count.ensures ∙ c.self.inside.jobs.ok.0) ∙ ap (new_job (length c.self.inside.jobs.items + 1) c.args.tag c.args.side c.args.container c.args.ranges.now) (next_same c.self.inside.versions.now c.self.inside.versions.pace c.in-Some.version c.in-Ok-begin_log.field-0 c.next.result c.next.ensures c.in-Some.is c.in-Ok-begin_log.ensures.version));
       next_is = c.next_place-self-inside.ensures room;
     } in
-    let s = start_done c.self.inside.workload c.args.side c.args.tag c.args.container c.args.ranges.now c.self.inside.src c.self.inside.dst c.begin_log.new.src c.begin_log.new.dst c.self.inside.versions c.begin_log.new.versions c.self.inside.clients.items (record { jobs = c.self.inside.jobs.items; place = c.self.inside.place; tickets = c.self.inside.tickets }) (g.V.Vault.files c.self.inside.vault) c.push.new.self.items c.next_place-self-inside.result c.in-Ok-begin_log.field-0 c.self.invariant.pace start plan listed in
-    (s.0, subst (λ (seen : Seen). step seen.workload seen.state events.Command s.0 ≡ moved (Ok answers.Done) (state_of c.self.inside.clients.items c.begin_log.new.src c.begin_log.new.dst c.begin_log.new.versions (record { jobs = c.push.new.self.items; place = c.next_place-self-inside.result; tickets = c.self.inside.tickets }) (g.V.Vault.files c.self.inside.vault))) c.self.view_is s.1)
+    let s = start_done c.self.inside.workload c.args.side c.args.tag c.args.container c.args.ranges.now c.self.inside.src c.self.inside.dst c.begin_log.new.src c.begin_log.new.dst c.self.inside.versions c.begin_log.new.versions c.self.inside.clients.items (record { jobs = c.self.inside.jobs.items; place = c.self.inside.place; tickets = c.self.inside.tickets; crew = c.self.inside.crew }) (g.V.Vault.files c.self.inside.vault) c.push.new.self.items c.next_place-self-inside.result c.in-Ok-begin_log.field-0 c.self.invariant.pace start plan listed in
+    (s.0, subst (λ (seen : Seen). step seen.workload seen.state events.Command s.0 ≡ moved (Ok answers.Done) (state_of c.self.inside.clients.items c.begin_log.new.src c.begin_log.new.dst c.begin_log.new.versions (record { jobs = c.push.new.self.items; place = c.next_place-self-inside.result; tickets = c.self.inside.tickets; crew = c.self.inside.crew }) (g.V.Vault.files c.self.inside.vault))) c.self.view_is s.1)
 
 pub invariant_of-self-in-Err : goal.invariant_of-self-in-Err
-invariant_of-self-in-Err g c = start_undone_world c.self.inside.workload c.self.inside.src c.self.inside.dst c.begin_log.new.src c.begin_log.new.dst c.self.inside.versions c.begin_log.new.versions c.self.inside.clients.items (record { jobs = c.self.inside.jobs.items; place = c.self.inside.place; tickets = c.self.inside.tickets }) (g.V.Vault.files c.self.inside.vault) c.truncate.new.self.items c.in-Err.ensures.err (c.truncate.ensures.items ∙ ap (take c.len-count.result) c.in-Ok.ensures.items ∙ taken_back c.self.inside.jobs.items c.len-count.result (types.Backup c.new-backup.result) (c.len-count.ensures ∙ c.self.inside.jobs.ok.0)) c.self.invariant
+invariant_of-self-in-Err g c = start_undone_world c.self.inside.workload c.self.inside.src c.self.inside.dst c.begin_log.new.src c.begin_log.new.dst c.self.inside.versions c.begin_log.new.versions c.self.inside.clients.items (record { jobs = c.self.inside.jobs.items; place = c.self.inside.place; tickets = c.self.inside.tickets; crew = c.self.inside.crew }) (g.V.Vault.files c.self.inside.vault) c.truncate.new.self.items c.in-Err.ensures.err (c.truncate.ensures.items ∙ ap (take c.len-count.result) c.in-Ok.ensures.items ∙ taken_back c.self.inside.jobs.items c.len-count.result (types.Backup c.new-backup.result) (c.len-count.ensures ∙ c.self.inside.jobs.ok.0)) c.self.invariant
 
 pub returns-in-Err-clause-step : goal.returns-in-Err-clause-step
 returns-in-Err-clause-step g c =
-    (Starved, ap (moved (Err NoMemory)) (ap (λ (s : Seen). s.state) (sym c.self.view_is) ∙ sym (start_undone c.self.inside.src c.self.inside.dst c.begin_log.new.src c.begin_log.new.dst c.self.inside.versions c.begin_log.new.versions c.self.inside.clients.items (record { jobs = c.self.inside.jobs.items; place = c.self.inside.place; tickets = c.self.inside.tickets }) (g.V.Vault.files c.self.inside.vault) c.truncate.new.self.items c.in-Err.ensures.err (c.truncate.ensures.items ∙ ap (take c.len-count.result) c.in-Ok.ensures.items ∙ taken_back c.self.inside.jobs.items c.len-count.result (types.Backup c.new-backup.result) (c.len-count.ensures ∙ c.self.inside.jobs.ok.0)))))
+    (Starved, ap (moved (Err NoMemory)) (ap (λ (s : Seen). s.state) (sym c.self.view_is) ∙ sym (start_undone c.self.inside.src c.self.inside.dst c.begin_log.new.src c.begin_log.new.dst c.self.inside.versions c.begin_log.new.versions c.self.inside.clients.items (record { jobs = c.self.inside.jobs.items; place = c.self.inside.place; tickets = c.self.inside.tickets; crew = c.self.inside.crew }) (g.V.Vault.files c.self.inside.vault) c.truncate.new.self.items c.in-Err.ensures.err (c.truncate.ensures.items ∙ ap (take c.len-count.result) c.in-Ok.ensures.items ∙ taken_back c.self.inside.jobs.items c.len-count.result (types.Backup c.new-backup.result) (c.len-count.ensures ∙ c.self.inside.jobs.ok.0)))))
 
 pub returns-in_err-job-clause-step : goal.returns-in_err-job-clause-step
 returns-in_err-job-clause-step g c =
@@ -83,7 +83,7 @@ returns-in_err-job-clause-step g c =
 
 pub returns-in_default-push-clause-step : goal.returns-in_default-push-clause-step
 returns-in_default-push-clause-step g c =
-    let old : State = state_of c.self.inside.clients.items c.self.inside.src c.self.inside.dst c.self.inside.versions (record { jobs = c.self.inside.jobs.items; place = c.self.inside.place; tickets = c.self.inside.tickets }) (g.V.Vault.files c.self.inside.vault) in
+    let old : State = state_of c.self.inside.clients.items c.self.inside.src c.self.inside.dst c.self.inside.versions (record { jobs = c.self.inside.jobs.items; place = c.self.inside.place; tickets = c.self.inside.tickets; crew = c.self.inside.crew }) (g.V.Vault.files c.self.inside.vault) in
     let kept : c.push.new.self.items ≡ c.self.inside.jobs.items = search in
     let same : record old { jobs = c.push.new.self.items } ≡ old = ap (λ (js : List Job). record old { jobs = js }) kept in
     starved_step c.args.self.now.workload c.args.self.now.state (record old { jobs = c.push.new.self.items }) (Err NoMemory) refl (same ∙ ap (λ (s : Seen). s.state) c.self.view_is)
