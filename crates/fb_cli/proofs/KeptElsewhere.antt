@@ -18,7 +18,7 @@ pub run_kept : (p : Workload) (old new : State) (lines : List EventLine) → Tel
 run_kept p old new [] r = subst (KeepsElsewhere old) r (kept_same old)
 run_kept p old new (line ∷ lines) r =
     let k = r.1 in
-    kept_trans old r.0 new (elsewhere_law.run p old r.0 k.turns k.run) (run_kept p r.0 new lines r.2)
+    kept_trans old r.0 new (elsewhere_law.run p old r.0 k.made.turns k.made.run) (run_kept p r.0 new lines r.2)
 
 told_outside : (jobs : List Job) (name : Bytes) → AllByRecursion (λ (job : JobTold). IsApart name (started job.terms)) (map job_told jobs) → IsOutside jobs name
 told_outside [] name o = tt

@@ -8,3 +8,4 @@ pub mod Replaying
 pub mod Restoring
 pub mod Listing
 pub mod Expiring
+pub mod Answering

@@ -14,7 +14,7 @@ use Rattle.workload_text.specs.declared.Workload.{Workload}
 use Rattle.workload_text.specs.Grammar.{Built, what}
 use Rattle.report_text.specs.declared.Report.{Report}
 use Rattle.fb_cli.specs.declared.fault.Fault.{Fault}
-use Rattle.fb_cli.specs.declared.fault.Fault.TheVariants.{Usage, TextRefused, SourceFault, SinkFault, VaultFault, NotRestorable, Damaged, CannotExpire, VersionsSpent, LogTooLarge, NoMemory, NoContainer, Missing, NotBuilt}
+use Rattle.fb_cli.specs.declared.fault.Fault.TheVariants.{Usage, TextRefused, SourceFault, SinkFault, VaultFault, NotRestorable, Damaged, CannotExpire, TurnsSpent, VersionsSpent, LogTooLarge, NoMemory, NoContainer, Missing, NotBuilt}
 use Rattle.fb_cli.specs.Later.{playable}
 use Rattle.fb_cli.specs.Runs.{IsRunReport, fault_in}
 use Rattle.fb_cli.specs.Replays.{IsPlayed, AnswersText, IsOfReplay, IsUnplayed, IsSaid, Replays, OwesStore, SaysText, ReadsText}
@@ -44,6 +44,7 @@ played_kind (Some (TextRefused line kind)) k = tt
 played_kind (Some SourceFault) k = tt
 played_kind (Some SinkFault) k = elim k [ inl e ↦ e | inr e ↦ cc ]
 played_kind (Some VaultFault) k = tt
+played_kind (Some (TurnsSpent turns)) k = tt
 played_kind (Some (VersionsSpent version)) k = tt
 played_kind (Some (LogTooLarge bytes)) k = tt
 played_kind (Some NoMemory) k = tt
@@ -78,6 +79,7 @@ played_not_idle (Some (TextRefused line kind)) k u = elim k [ inl e ↦ e | inr 
 played_not_idle (Some SourceFault) k u = elim k [ inl e ↦ e | inr e ↦ cc ]
 played_not_idle (Some SinkFault) k u = u
 played_not_idle (Some VaultFault) k u = u
+played_not_idle (Some (TurnsSpent turns)) k u = u
 played_not_idle (Some (VersionsSpent version)) k u = u
 played_not_idle (Some (LogTooLarge bytes)) k u = u
 played_not_idle (Some NoMemory) k u = u

@@ -4,13 +4,16 @@ use Rattle.std.proofs.Common.{ap, sym, ◌∙◌, arith, subst, get_or}
 use Rattle.std.proofs.lemmas.List.{take_more}
 use Rattle.workload_text.specs.declared.ScheduleLine.{ScheduleLine}
 use Rattle.workload_text.specs.declared.Workload.{Workload}
+use Rattle.cluster_core.specs.declared.DrainFault.TheVariants as drains
+use Rattle.cluster_core.specs.declared.StepFault.{StepFault}
 use Rattle.cluster_core.specs.declared.StepFault.TheVariants as steps
 use Rattle.cluster_core.specs.State.{State}
 use Rattle.report_text.specs.declared.EventAnswer.{EventAnswer}
-use Rattle.report_text.specs.declared.EventAnswer.TheVariants.{Step, Drained, TurnsSpent}
+use Rattle.report_text.specs.declared.EventAnswer.TheVariants.{Step, Drain}
 use Rattle.report_text.specs.declared.EventLine.{EventLine}
 use Rattle.fb_cli.specs.declared.fault.Fault.{Fault}
-use Rattle.fb_cli.specs.Faults.{fault_of, last_fault}
+use Rattle.fb_cli.specs.declared.fault.Fault.TheVariants.{NoMemory}
+use Rattle.fb_cli.specs.Faults.{refusal_of_step, fault_of, last_fault}
 use Rattle.fb_cli.specs.Runs.{TellsTurns, Tells, schedule_of}
 use Rattle.fb_cli.specs.Replays.{IsPlayed}
 
@@ -65,14 +68,18 @@ last-snoc (x ∷ []) line = refl
 last-snoc (x ∷ y ∷ ys) line = last-snoc (y ∷ ys) line
 
 -- an answer but want of memory ends no replay before its end
-played_answer : (answer : EventAnswer) → (answer ≡ Step (Err steps.NoMemory) → ⊥) → IsPlayed (fault_of answer)
+played_step : (fault : StepFault) → (Some (refusal_of_step fault) ≡ Some NoMemory → ⊥) → IsPlayed (Some (refusal_of_step fault))
+played_step steps.VaultFault h = tt
+played_step (steps.VersionsSpent version) h = tt
+played_step (steps.LogTooLarge bytes) h = tt
+played_step steps.NoMemory h = absurd (h refl)
+
+played_answer : (answer : EventAnswer) → (fault_of answer ≡ Some NoMemory → ⊥) → IsPlayed (fault_of answer)
 played_answer (Step (Ok answer)) h = tt
-played_answer (Step (Err steps.VaultFault)) h = tt
-played_answer (Step (Err (steps.VersionsSpent version))) h = tt
-played_answer (Step (Err (steps.LogTooLarge bytes))) h = tt
-played_answer (Step (Err steps.NoMemory)) h = absurd (h refl)
-played_answer (Drained steps) h = tt
-played_answer (TurnsSpent turns) h = tt
+played_answer (Step (Err fault)) h = played_step fault h
+played_answer (Drain (Ok steps)) h = tt
+played_answer (Drain (Err (drains.TurnsSpent turns))) h = tt
+played_answer (Drain (Err (drains.Step fault))) h = played_step fault h
 
 -- a run that is told was played to its end
 played_lines : (p : Workload) (old new : State) (lines : List EventLine) → Tells p old lines new → IsPlayed (last_fault lines)

@@ -1,9 +1,10 @@
 -- That each line of a report which says a fault of the store has its cause.
 use Rattle.std.specs.Prelude.{◌≡◌, ℕ, ◌+◌, ◌≤◌, List, [], ◌∷◌, Some, Err, ◌⊎◌}
 use Rattle.fb_outside.specs.Faults.{most_faults, Counts}
+use Rattle.cluster_core.specs.declared.DrainFault.TheVariants as drains
 use Rattle.cluster_core.specs.declared.StepFault.TheVariants as steps
 use Rattle.report_text.specs.declared.EventAnswer.{EventAnswer}
-use Rattle.report_text.specs.declared.EventAnswer.TheVariants.{Step}
+use Rattle.report_text.specs.declared.EventAnswer.TheVariants.{Step, Drain}
 use Rattle.report_text.specs.declared.EventLine.{EventLine}
 use Rattle.fb_cli.specs.declared.fault.Fault.TheVariants.{VaultFault}
 use Rattle.fb_cli.specs.Faults.{fault_of}
@@ -11,6 +12,7 @@ use Rattle.fb_cli.specs.Faults.{fault_of}
 -- one for an answer that says a fault of the store, else none
 abbrev pub vault_faults_of : EventAnswer → ℕ
 vault_faults_of (Step (Err steps.VaultFault)) = 1
+vault_faults_of (Drain (Err (drains.Step steps.VaultFault))) = 1
 vault_faults_of answer = 0
 
 -- how many of the event lines say a fault of the store

@@ -2,6 +2,8 @@
 use Rattle.std.specs.Prelude.{ℕ, List, [], ◌∷◌, ◌++◌, Option, Some, None}
 use Rattle.std.specs.Prelude.{codes, decimal, option_map}
 use Rattle.fb_bytes.specs.Bytes.{Bytes}
+use Rattle.cluster_core.specs.declared.DrainFault.{DrainFault}
+use Rattle.cluster_core.specs.declared.DrainFault.TheVariants as drains
 use Rattle.cluster_core.specs.declared.StepFault.{StepFault}
 use Rattle.cluster_core.specs.declared.StepFault.TheVariants as steps
 use Rattle.workload_text.specs.Faults.{kind_word}
@@ -15,7 +17,7 @@ use Rattle.fb_cli.specs.declared.fault.Fault.{Fault}
 use Rattle.fb_cli.specs.declared.fault.Fault.TheVariants.{Usage, TextRefused}
 use Rattle.fb_cli.specs.declared.fault.Fault.TheVariants.{SourceFault, SinkFault, VaultFault}
 use Rattle.fb_cli.specs.declared.fault.Fault.TheVariants.{NotRestorable, Damaged, CannotExpire}
-use Rattle.fb_cli.specs.declared.fault.Fault.TheVariants.{VersionsSpent, LogTooLarge}
+use Rattle.fb_cli.specs.declared.fault.Fault.TheVariants.{TurnsSpent, VersionsSpent, LogTooLarge}
 use Rattle.fb_cli.specs.declared.fault.Fault.TheVariants.{NoMemory, NoContainer, Missing, NotBuilt}
 
 -- the status that a command ends with
@@ -29,6 +31,7 @@ status_of (Some VaultFault) = 5
 status_of (Some (NotRestorable low high)) = 6
 status_of (Some (Damaged name fault)) = 7
 status_of (Some (CannotExpire wanted left)) = 8
+status_of (Some (TurnsSpent turns)) = 9
 status_of (Some (VersionsSpent version)) = 10
 status_of (Some NoMemory) = 12
 status_of (Some NoContainer) = 13
@@ -45,6 +48,8 @@ refusal_line (Some (TextRefused line kind)) =
 refusal_line (Some SourceFault) = codes "refused source-fault\n"
 refusal_line (Some SinkFault) = []
 refusal_line (Some VaultFault) = codes "refused vault-fault\n"
+refusal_line (Some (TurnsSpent turns)) =
+    codes "refused turns-spent " ++ decimal turns ++ codes "\n"
 refusal_line (Some (VersionsSpent version)) =
     codes "refused versions-spent " ++ decimal version ++ codes "\n"
 refusal_line (Some (LogTooLarge bytes)) =
@@ -70,9 +75,14 @@ refusal_of_step (steps.VersionsSpent version) = VersionsSpent version
 refusal_of_step (steps.LogTooLarge bytes) = LogTooLarge bytes
 refusal_of_step steps.NoMemory = NoMemory
 
+-- the refusal of a command whose last event was refused so
+abbrev pub refusal_of_event : DrainFault → Fault
+refusal_of_event (drains.TurnsSpent turns) = TurnsSpent turns
+refusal_of_event (drains.Step fault) = refusal_of_step fault
+
 -- the refusal of a command whose last event was answered so
 abbrev pub fault_of : EventAnswer → Option Fault
-fault_of reply = option_map refusal_of_step (fault_in reply)
+fault_of reply = option_map refusal_of_event (fault_in reply)
 
 -- the refusal by the answer of the last event; the answers before it have no say
 abbrev pub last_fault : List EventLine → Option Fault

@@ -18,22 +18,29 @@ use Rattle.workload_text.specs.Texts.{lines_of, words_of}
 use Rattle.fb_cli.specs.declared.fault.Fault.{Fault}
 use Rattle.fb_cli.specs.declared.fault.Fault.TheVariants.{TextRefused, NoMemory, NotBuilt}
 
--- the commands of hand jobs are played
+-- the commands of hand jobs are played, and those that let agents claim nothing or claim again
 abbrev pub is_later_command : CommandKind → Bool
 is_later_command commands.Open = false
 is_later_command commands.Dump = false
 is_later_command commands.Cut = false
 is_later_command commands.Seal = false
 is_later_command commands.Abort = false
+is_later_command commands.Pause = false
+is_later_command commands.Resume = false
 is_later_command commands.Status = false
 is_later_command kind = true
 
--- clients' steps, ticks and the operator's steps are played
+-- clients' steps, ticks, the operator's steps and drains are played, and agents' claims, extends
+-- and deaths
 abbrev pub is_later_event : EventKind → Bool
 is_later_event events.Begin = false
 is_later_event events.Commit = false
 is_later_event events.Tick = false
+is_later_event events.Claim = false
+is_later_event events.Extend = false
+is_later_event events.Die = false
 is_later_event events.Op = false
+is_later_event events.Drain = false
 is_later_event kind = true
 
 -- a line with this first word isn't played yet

@@ -13,13 +13,14 @@ use Rattle.fb_cli.specs.Runs.{IsRunReport, fault_in}
 use Rattle.fb_cli.specs.declared.fault.Fault.{Fault}
 use Rattle.fb_cli.specs.declared.fault.Fault.TheVariants.{Usage, TextRefused, SourceFault}
 use Rattle.fb_cli.specs.declared.fault.Fault.TheVariants.{VaultFault}
-use Rattle.fb_cli.specs.declared.fault.Fault.TheVariants.{VersionsSpent, LogTooLarge}
+use Rattle.fb_cli.specs.declared.fault.Fault.TheVariants.{TurnsSpent, VersionsSpent, LogTooLarge}
 use Rattle.fb_cli.specs.declared.fault.Fault.TheVariants.{NoMemory, NotBuilt}
 
 -- The schedule was played to its end: there is no refusal but one of its last step.
 abbrev pub IsPlayed : Option Fault → Type 0
 IsPlayed None = Unit {0}
 IsPlayed (Some VaultFault) = Unit {0}
+IsPlayed (Some (TurnsSpent turns)) = Unit {0}
 IsPlayed (Some (VersionsSpent version)) = Unit {0}
 IsPlayed (Some (LogTooLarge bytes)) = Unit {0}
 IsPlayed fault = ⊥
@@ -40,6 +41,7 @@ IsUnplayed fault = IsRefused fault
 abbrev pub ReadsAll : Option Fault → Type 0
 ReadsAll None = Unit {0}
 ReadsAll (Some VaultFault) = Unit {0}
+ReadsAll (Some (TurnsSpent turns)) = Unit {0}
 ReadsAll (Some (VersionsSpent version)) = Unit {0}
 ReadsAll (Some (LogTooLarge bytes)) = Unit {0}
 ReadsAll fault = IsRefused fault
@@ -54,6 +56,7 @@ IsOfReading fault = IsRefused fault
 -- the refusals that a replay may come to
 abbrev pub IsOfReplay : Option Fault → Type 0
 IsOfReplay (Some VaultFault) = Unit {0}
+IsOfReplay (Some (TurnsSpent turns)) = Unit {0}
 IsOfReplay (Some (VersionsSpent version)) = Unit {0}
 IsOfReplay (Some (LogTooLarge bytes)) = Unit {0}
 IsOfReplay fault = IsOfReading fault

@@ -19,57 +19,87 @@ use Rattle.client_core.specs.Clients as clients
 use Rattle.client_core.specs.Legal.{Ground, entries_by, IsLegal}
 use Rattle.cluster_core.specs.declared.Event.{Event}
 use Rattle.cluster_core.specs.declared.Event.TheVariants as events
-use Rattle.cluster_core.specs.declared.StepFault.TheVariants.{NoMemory}
 use Rattle.cluster_core.specs.Elsewhere.{told_of, IsApart}
 use Rattle.cluster_core.specs.Jobs.{JobTold, job_told, started, is_on}
 use Rattle.cluster_core.specs.State.{State, on_side, opening}
 use Rattle.cluster_core.specs.Step.{Turn, Run}
+use Rattle.cluster_core.specs.Drain.{Drains}
 use Rattle.cluster_core.specs.Sound.{IsOrdered, other_side}
 use Rattle.workload_text.specs.declared.CommandKind.{CommandKind}
 use Rattle.workload_text.specs.Kinds.{kind_of}
 use Rattle.report_text.specs.declared.EventAnswer.{EventAnswer}
-use Rattle.report_text.specs.declared.EventAnswer.TheVariants.{Step, Drained, TurnsSpent}
+use Rattle.report_text.specs.declared.EventAnswer.TheVariants.{Step, Drain}
 use Rattle.report_text.specs.declared.EventLine.{EventLine}
 use Rattle.report_text.specs.declared.RunReport.{RunReport}
 use Rattle.report_text.specs.declared.Report.{Report}
 use Rattle.report_text.specs.declared.Report.TheVariants as reports
 use Rattle.fb_cli.specs.Causes.{HaveCauses}
-use Rattle.fb_cli.specs.Faults.{last_fault}
+use Rattle.fb_cli.specs.Faults.{fault_of, last_fault}
 use Rattle.fb_cli.specs.Outside.{Store}
 use Rattle.fb_cli.specs.declared.fault.Fault.{Fault}
+use Rattle.fb_cli.specs.declared.fault.Fault.TheVariants.{NoMemory}
 
--- The event of a schedule's line. A line that isn't played yet has none of its own; a text with
--- such a line is refused.
-abbrev pub event_of : ScheduleLine → Event
-event_of (lines.Begin client) = events.Begin client
-event_of (lines.Commit client) = events.Commit client
-event_of (lines.Tick n) = events.Tick n
-event_of line = events.Command
+-- The event of a schedule's line; a drain makes its own. A line that isn't played yet stands for no
+-- event: a text with such a line is refused.
+abbrev pub event_of : ScheduleLine → Option Event
+event_of (lines.Begin client) = Some (events.Begin client)
+event_of (lines.Commit client) = Some (events.Commit client)
+event_of (lines.Tick n) = Some (events.Tick n)
+event_of (lines.Claim agent pick) = Some (events.Claim agent pick)
+event_of (lines.Extend agent) = Some (events.Extend agent)
+event_of (lines.Die agent) = Some (events.Die agent)
+event_of lines.Drain = None
+event_of line = Some events.Command
+
+-- the most events that a drain makes
+abbrev pub most_turns : ℕ
+most_turns = 10000000
 
 -- the kind of the operator's next command in this state, where one is left
 abbrev pub next_kind : Workload → State → Option CommandKind
 next_kind workload state = option_map kind_of (slice_get workload.operator state.place)
 
--- the command that a schedule's line makes a step of; a client's line and a tick make none
+-- the command that a schedule's line makes a step of; those of clients, of time, of agents and a
+-- drain name none
 abbrev pub command_of : Workload → State → ScheduleLine → Option CommandKind
 command_of workload state (lines.Begin client) = None
 command_of workload state (lines.Commit client) = None
 command_of workload state (lines.Tick n) = None
+command_of workload state (lines.Claim agent pick) = None
+command_of workload state (lines.Extend agent) = None
+command_of workload state (lines.Die agent) = None
+command_of workload state lines.Drain = None
 command_of workload state line = next_kind workload state
 
 -- a line with its command and its answer
 abbrev pub line_told : ScheduleLine → Option CommandKind → EventAnswer → EventLine
 line_told line command answer = record { line = line; command = command; reply = answer }
 
--- The turns of the machine that an answer tells: one, of the line's event. No drain is played yet.
-abbrev pub TurnsTold : ScheduleLine → EventAnswer → List Turn → Type 0
-TurnsTold line (Step answer) turns = turns ≡ record { event = event_of line; answer = answer } ∷ []
-TurnsTold line (Drained steps) turns = ⊥
-TurnsTold line (TurnsSpent spent) turns = ⊥
+-- the one turn of an event, where this is its answer
+abbrev pub IsTurn : Event → EventAnswer → List Turn → Type 0
+IsTurn event (Step answer) turns = turns ≡ record { event = event; answer = answer } ∷ []
+IsTurn event (Drain result) turns = ⊥
 
--- the turns of the machine that an event line tells
-abbrev pub AreTurnsOf : EventLine → List Turn → Type 0
-AreTurnsOf told turns = TurnsTold told.line told.reply turns
+-- the turns of a drain that came to this
+abbrev pub DrainTold : Workload → State → EventAnswer → List Turn → State → Type 0
+DrainTold workload old (Step answer) turns new = ⊥
+DrainTold workload old (Drain result) turns new = Drains workload most_turns old turns result new
+
+-- The turns of the machine that an answer tells: one, of the line's event, or those of a drain.
+abbrev pub TurnsTold : Workload → State → Option Event → EventAnswer → List Turn → State → Type 0
+TurnsTold workload old (Some event) answer turns new = IsTurn event answer turns
+TurnsTold workload old None answer turns new = DrainTold workload old answer turns new
+
+-- From old, a schedule's line may be answered so, and leave new.
+pub record Answers
+    (workload : Workload)
+    (old : State)
+    (line : ScheduleLine)
+    (answer : EventAnswer)
+    (new : State) : Type 0 where
+  pub turns : List Turn
+  pub told : TurnsTold workload old (event_of line) answer turns new
+  pub run : Run workload old turns new
 
 -- An event line tells turns of the machine, for which there was memory, and the command that they
 -- were of.
@@ -78,10 +108,8 @@ pub record TellsTurns
     (old : State)
     (line : EventLine)
     (new : State) : Type 0 where
-  pub turns : List Turn
-  pub told : AreTurnsOf line turns
-  pub run : Run workload old turns new
-  pub memory : line.reply ≢ Step (Err NoMemory)
+  pub made : Answers workload old line.line line.reply new
+  pub memory : fault_of line.reply ≢ Some NoMemory
   pub command : line.command ≡ command_of workload old line.line
 
 -- From old, the event lines tell a run of the machine that ends in new: each goes on from where the

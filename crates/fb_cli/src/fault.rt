@@ -1,9 +1,9 @@
 ghost use Rattle.std.specs.Prelude.{◌≡◌, Some, ◌++◌, decimal, IfOk};
-ghost use Rattle.fb_cli.specs.Faults.{status_of, refusal_line, fault_of, refusal_of_step, last_fault};
+ghost use Rattle.fb_cli.specs.Faults.{status_of, refusal_line, fault_of, refusal_of_step, refusal_of_event, last_fault};
 ghost use Rattle.fb_cli.specs.Expires.{refusal_of_expire};
 ghost use Rattle.fb_cli.specs.Restores.{refusal_of};
 
-use cluster_core::StepFault;
+use cluster_core::{DrainFault, StepFault};
 use container_view::{FileFault, ViewFault};
 use expire_core::ExpireFault;
 use fb_bytes::{Blob, Text};
@@ -34,6 +34,8 @@ pub enum Fault {
     /// No version at or past the wanted one would stay in the container. The greatest that would is
     /// `left`, where there is one.
     CannotExpire { wanted: u64, left: Option<u64> },
+    /// The last event was a drain that made so many events, and the script hadn't ended.
+    TurnsSpent { turns: u64 },
     /// The last step would take a version past the greatest one; the version is the newest.
     VersionsSpent { version: u64 },
     /// The last step's entry has too many bytes for a job's log.
@@ -61,8 +63,9 @@ pub fn status_of(fault: &Option<Fault>) -> u8
         Some(Fault::VaultFault) => 5,
         Some(Fault::NotRestorable { .. }) => 6,
         Some(Fault::Damaged { .. }) => 7,
-        Some(Fault::VersionsSpent { .. }) => 10,
         Some(Fault::CannotExpire { .. }) => 8,
+        Some(Fault::TurnsSpent { .. }) => 9,
+        Some(Fault::VersionsSpent { .. }) => 10,
         Some(Fault::NoMemory) => 12,
         Some(Fault::NoContainer) => 13,
         Some(Fault::Missing { .. }) => 14,
@@ -86,8 +89,18 @@ fn fault_of(reply: &Reply) -> Option<Fault>
     ensures { result ≡ fault_of reply.now }
 {
     match reply.fault() {
-        Some(fault) => Some(refusal_of_step(fault)),
+        Some(fault) => Some(refusal_of_event(fault)),
         None => None,
+    }
+}
+
+// The refusal of a command whose last event was refused so.
+fn refusal_of_event(fault: DrainFault) -> Fault
+    ensures { result ≡ refusal_of_event fault }
+{
+    match fault {
+        DrainFault::TurnsSpent { turns } => Fault::TurnsSpent { turns },
+        DrainFault::Step(fault) => refusal_of_step(fault),
     }
 }
 
@@ -138,6 +151,9 @@ pub fn push_refusal(alloc: Global, out: &mut Blob, fault: &Option<Fault>) -> Res
         Some(Fault::VaultFault) => out.extend_from_slice(b"refused vault-fault\n"),
         Some(Fault::NotRestorable { min, max }) => push_not_restorable(out, *min, *max),
         Some(Fault::Damaged { name, fault }) => push_damaged(alloc, out, name, fault),
+        Some(Fault::TurnsSpent { turns }) => {
+            push_number(out, b"refused turns-spent ", *turns, b"\n")
+        }
         Some(Fault::VersionsSpent { version }) => {
             push_number(out, b"refused versions-spent ", *version, b"\n")
         }

@@ -85,6 +85,8 @@ fn is_later_command(kind: CommandKind) -> bool
             | CommandKind::Cut
             | CommandKind::Seal
             | CommandKind::Abort
+            | CommandKind::Pause
+            | CommandKind::Resume
             | CommandKind::Status
     )
 }
@@ -94,6 +96,13 @@ fn is_later_event(kind: EventKind) -> bool
 {
     !matches!(
         kind,
-        EventKind::Begin | EventKind::Commit | EventKind::Tick | EventKind::Op
+        EventKind::Begin
+            | EventKind::Commit
+            | EventKind::Tick
+            | EventKind::Claim
+            | EventKind::Extend
+            | EventKind::Die
+            | EventKind::Op
+            | EventKind::Drain
     )
 }

@@ -1,17 +1,15 @@
 ghost use Rattle.std.specs.Prelude.{◌≡◌, ◌≤◌, Option, Some, None, Ok, Err, map, IfOk, IfSome, IsSome, IsErrOf, IsTrue, OnErr, ◌↔◌, ◌⊎◌};
 ghost use Rattle.fb_outside.specs.Faults.{Counts};
-ghost use Rattle.cluster_core.specs.declared.StepFault.TheVariants.{NoMemory};
-ghost use Rattle.cluster_core.specs.Step.{Step};
 ghost use Rattle.fb_cli.specs.Causes.{RoseInEach};
 ghost use Rattle.fb_cli.specs.Faults.{status_of, fault_of, last_fault};
-ghost use Rattle.fb_cli.specs.Fronts.{PlaysFront, LeavesFront};
+ghost use Rattle.fb_cli.specs.Fronts.{Starves, PlaysFront, LeavesFront};
 ghost use Rattle.fb_cli.specs.Outside.{stream_change, store_change};
-ghost use Rattle.fb_cli.specs.Runs.{event_of, command_of, next_kind, line_told, schedule_of, TellsTurns, Tells, IsRunReport, fault_in};
+ghost use Rattle.fb_cli.specs.Runs.{event_of, command_of, next_kind, line_told, schedule_of, Answers, TellsTurns, Tells, IsRunReport, fault_in};
 ghost use Rattle.fb_cli.specs.Replays.{IsPlayed, Replays, OwesStore, ReadsText};
 
 use crate::fault::{Fault, last_fault};
 use crate::later::{first_later, is_played};
-use cluster_core::{Answer, Event, StepFault, World, faithful_law};
+use cluster_core::{DrainFault, Event, StepFault, World, faithful_law};
 use fb_bytes::Seq;
 use fb_outside::{ReadFault, Source, Vault, read_all};
 use report_text::{EventAnswer, EventLine, Reply, Report, RunReport};
@@ -19,6 +17,9 @@ use std::alloc::{AllocError, Global};
 use workload_text::{
     CommandKind, MOST_BYTES, ScheduleLine, TextFault, TextKind, Workload, read_workload,
 };
+
+/// The most events that a drain makes.
+const MOST_TURNS: u64 = 10_000_000;
 
 /// How a command ended: its status, what it has to tell, why it was refused, and the file store.
 #[derive(Drop)]
@@ -181,7 +182,7 @@ fn keep_line(
     })
 }
 
-// Makes the step of one line of a schedule. With what it was answered comes its command.
+// Makes the events of one line of a schedule. With what it was answered comes its command.
 fn make_step<V: Vault>(
     world: &mut World<V>,
     line: ScheduleLine,
@@ -193,7 +194,8 @@ fn make_step<V: Vault>(
     ensures faults { IfOk result
         (λ told. Counts world.old.faults world.new.faults
         (fault_of told.1 ≡ Some Fault.VaultFault)) }
-    ensures starved { OnErr result (world.new.state ≡ world.old.state) }
+    ensures starved { OnErr result
+        (Starves world.old.workload world.old.state line world.new.state) }
     ensures later { world.old.faults ≤ world.new.faults }
 {
     let command = command_of(world, line);
@@ -201,25 +203,33 @@ fn make_step<V: Vault>(
     if is_starved(&answer) {
         return Err(AllocError);
     }
-    Ok((command, EventAnswer::Step(answer)))
+    Ok((command, answer))
 }
 
-// What the step of a schedule's line is answered.
-fn answer_of<V: Vault>(world: &mut World<V>, line: ScheduleLine) -> Result<Answer, StepFault>
-    ensures step { Step world.old.workload world.old.state (event_of line) result world.new.state }
+// What a schedule's line is answered.
+fn answer_of<V: Vault>(world: &mut World<V>, line: ScheduleLine) -> EventAnswer
+    ensures answers { Answers world.old.workload world.old.state line result world.new.state }
     ensures workload { world.new.workload ≡ world.old.workload }
     ensures faults { Counts world.old.faults world.new.faults
-        (IsErrOf result StepFault.VaultFault) }
-    ensures starved { IsErrOf result StepFault.NoMemory → world.new.state ≡ world.old.state }
+        (fault_of result ≡ Some Fault.VaultFault) }
+    ensures starved { fault_of result ≡ Some Fault.NoMemory
+        → Starves world.old.workload world.old.state line world.new.state }
 {
-    world.step(&event_of(line))
+    match event_of(line) {
+        Some(event) => EventAnswer::Step(world.step(&event)),
+        None => EventAnswer::Drain(world.drain(MOST_TURNS)),
+    }
 }
 
-// There was no memory for the step.
-fn is_starved(answer: &Result<Answer, StepFault>) -> bool
-    ensures { IsTrue result ↔ (answer.now ≡ Err NoMemory) }
+// There was no memory for the event.
+fn is_starved(answer: &EventAnswer) -> bool
+    ensures { IsTrue result ↔ (fault_of answer.now ≡ Some Fault.NoMemory) }
 {
-    matches!(answer, Err(StepFault::NoMemory))
+    matches!(
+        answer,
+        EventAnswer::Step(Err(StepFault::NoMemory))
+            | EventAnswer::Drain(Err(DrainFault::Step(StepFault::NoMemory)))
+    )
 }
 
 // The command that a schedule's line makes a step of.
@@ -227,9 +237,13 @@ fn command_of<V: Vault>(world: &World<V>, line: ScheduleLine) -> Option<CommandK
     ensures { result ≡ command_of world.now.workload world.now.state line }
 {
     match line {
-        ScheduleLine::Begin { .. } | ScheduleLine::Commit { .. } | ScheduleLine::Tick { .. } => {
-            None
-        }
+        ScheduleLine::Begin { .. }
+        | ScheduleLine::Commit { .. }
+        | ScheduleLine::Tick { .. }
+        | ScheduleLine::Claim { .. }
+        | ScheduleLine::Extend { .. }
+        | ScheduleLine::Die { .. }
+        | ScheduleLine::Drain => None,
         _ => next_kind(world),
     }
 }
@@ -244,14 +258,18 @@ fn next_kind<V: Vault>(world: &World<V>) -> Option<CommandKind>
     }
 }
 
-// The event of a schedule's line.
-fn event_of(line: ScheduleLine) -> Event
+// The event of a schedule's line; a drain makes its own.
+fn event_of(line: ScheduleLine) -> Option<Event>
     ensures { result ≡ event_of line }
 {
     match line {
-        ScheduleLine::Begin { client } => Event::Begin { client },
-        ScheduleLine::Commit { client } => Event::Commit { client },
-        ScheduleLine::Tick { n } => Event::Tick { n },
-        _ => Event::Command,
+        ScheduleLine::Begin { client } => Some(Event::Begin { client }),
+        ScheduleLine::Commit { client } => Some(Event::Commit { client }),
+        ScheduleLine::Tick { n } => Some(Event::Tick { n }),
+        ScheduleLine::Claim { agent, pick } => Some(Event::Claim { agent, pick }),
+        ScheduleLine::Extend { agent } => Some(Event::Extend { agent }),
+        ScheduleLine::Die { agent } => Some(Event::Die { agent }),
+        ScheduleLine::Drain => None,
+        _ => Some(Event::Command),
     }
 }

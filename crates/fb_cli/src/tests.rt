@@ -157,6 +157,7 @@ fn each_text_is_played_as_its_row_says(rt: HostRuntime) -> Result<(), Fail> {
         replays::FAILING_CALLS.len()
     );
     assert_eq!(rt; good(rt.alloc(), replays::REFUSED)?, replays::REFUSED.len());
+    assert_eq!(rt; good(rt.alloc(), replays::AGENTS)?, replays::AGENTS.len());
     assert_eq!(rt; good(rt.alloc(), replays::ENDINGS)?, replays::ENDINGS.len());
     assert_eq!(rt; good(rt.alloc(), clients::CLIENTS)?, clients::CLIENTS.len());
     Ok(())

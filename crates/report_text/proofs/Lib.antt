@@ -1,4 +1,5 @@
 pub mod Appends
 mod Clients
+mod Nothing
 mod Plain
 mod Tails

@@ -1,5 +1,5 @@
 -- The lines of a schedule's events.
-use Rattle.std.specs.Prelude.{List, [], ◌∷◌, ◌++◌, Option, Some, None, Result, Ok, Err, codes}
+use Rattle.std.specs.Prelude.{ℕ, List, [], ◌∷◌, ◌++◌, Option, Some, None, Result, Ok, Err, codes}
 use Rattle.std.specs.Prelude.{decimal}
 use Rattle.fb_bytes.specs.Bytes.{Bytes}
 use Rattle.fb_bytes.specs.Words.{printed}
@@ -17,6 +17,8 @@ use Rattle.cluster_core.specs.declared.Answer.TheVariants.{Nothing, Read, Outcom
 use Rattle.cluster_core.specs.declared.Answer.TheVariants.{Version, NoTask, Paused, Task, Until}
 use Rattle.cluster_core.specs.declared.Answer.TheVariants.{Taken, Loaded, Closed, Interrupted, Dead}
 use Rattle.cluster_core.specs.declared.Answer.TheVariants.{Going, Refused, State, Lag}
+use Rattle.cluster_core.specs.declared.DrainFault.{DrainFault}
+use Rattle.cluster_core.specs.declared.DrainFault.TheVariants as drains
 use Rattle.cluster_core.specs.declared.StepFault.{StepFault}
 use Rattle.cluster_core.specs.declared.StepFault.TheVariants.{VaultFault, VersionsSpent}
 use Rattle.cluster_core.specs.declared.StepFault.TheVariants.{LogTooLarge}
@@ -24,8 +26,7 @@ use Rattle.cluster_core.specs.declared.StepFault.TheVariants.{NoMemory}
 use Rattle.workload_text.specs.declared.CommandKind.{CommandKind}
 use Rattle.workload_text.specs.Kinds.{command_word}
 use Rattle.report_text.specs.declared.event_answer.EventAnswer.{EventAnswer}
-use Rattle.report_text.specs.declared.event_answer.EventAnswer.TheVariants.{Step, Drained}
-use Rattle.report_text.specs.declared.event_answer.EventAnswer.TheVariants.{TurnsSpent}
+use Rattle.report_text.specs.declared.event_answer.EventAnswer.TheVariants.{Step, Drain}
 use Rattle.report_text.specs.declared.report.EventLine.{EventLine}
 use Rattle.report_text.specs.Lines.{line}
 use Rattle.report_text.specs.Outcomes.{end_words}
@@ -87,7 +88,7 @@ abbrev pub status_word : Option JobState → Bytes
 status_word None = codes "never-ran"
 status_word (Some state) = state_word state
 
--- what an event was answered
+-- what a step was answered
 abbrev pub answer_words : Answer → List Bytes
 answer_words Nothing = codes "none" ∷ []
 answer_words (Read version) = codes "read" ∷ decimal version ∷ []
@@ -122,18 +123,23 @@ abbrev pub step_words : Result Answer StepFault → List Bytes
 step_words (Ok answer) = answer_words answer
 step_words (Err fault) = step_fault_words fault
 
+-- how a drain ended
+abbrev pub drain_words : Result ℕ DrainFault → List Bytes
+drain_words (Ok steps) = codes "steps" ∷ decimal steps ∷ []
+drain_words (Err (drains.TurnsSpent turns)) = codes "turns-spent" ∷ decimal turns ∷ []
+drain_words (Err (drains.Step fault)) = step_fault_words fault
+
 -- what an event was answered
 abbrev pub reply_words : EventAnswer → List Bytes
 reply_words (Step answer) = step_words answer
-reply_words (Drained steps) = codes "steps" ∷ decimal steps ∷ []
-reply_words (TurnsSpent turns) = codes "turns-spent" ∷ decimal turns ∷ []
+reply_words (Drain result) = drain_words result
 
--- why a step was refused, where it was
-abbrev pub fault_in : EventAnswer → Option StepFault
+-- why an event was refused, where it was
+abbrev pub fault_in : EventAnswer → Option DrainFault
 fault_in (Step (Ok answer)) = None
-fault_in (Step (Err fault)) = Some fault
-fault_in (Drained steps) = None
-fault_in (TurnsSpent turns) = None
+fault_in (Step (Err fault)) = Some (drains.Step fault)
+fault_in (Drain (Ok steps)) = None
+fault_in (Drain (Err fault)) = Some fault
 
 -- an event, and behind an arrow what it was answered
 abbrev pub event_line : EventLine → Bytes

@@ -8,7 +8,7 @@ ghost use Rattle.report_text.specs.Faults.{file_fault_words};
 ghost use Rattle.report_text.specs.inner.Fields.{field_words};
 ghost use Rattle.report_text.specs.Lines.{behind};
 ghost use Rattle.report_text.specs.Jobs as spec;
-ghost use Rattle.report_text.specs.Events.{refusal_words, status_word, answer_words, step_fault_words, step_words};
+ghost use Rattle.report_text.specs.Events.{refusal_words, status_word, answer_words, step_fault_words, step_words, drain_words};
 
 use crate::described::put_number_or_none;
 use crate::faults::put_file_fault;
@@ -16,7 +16,7 @@ use crate::jobs::{kind_word, state_word};
 use crate::outcomes::{end_of, put_end};
 use crate::tail::Tail;
 use crate::words::{put, put_bytes, put_field, put_last};
-use cluster_core::{Answer, JobState, Refusal, StepFault};
+use cluster_core::{Answer, DrainFault, JobState, Refusal, StepFault};
 use container_view::FileFault;
 use fb_bytes::{Blob, Text};
 use std::alloc::{AllocError, Global};
@@ -33,6 +33,17 @@ pub fn put_step(
     match answer {
         Ok(answer) => put_answer(alloc, out, answer),
         Err(fault) => put_step_fault(out, *fault),
+    }
+}
+
+/// How a drain ended.
+pub fn put_drain(out: &mut Blob, drained: Result<u64, DrainFault>) -> Result<(), AllocError>
+    ensures { OnOk result (out.new ≡ out.old ++ behind (drain_words drained)) }
+{
+    match drained {
+        Ok(steps) => put_last(out, b" steps ", steps),
+        Err(DrainFault::TurnsSpent { turns }) => put_last(out, b" turns-spent ", turns),
+        Err(DrainFault::Step(fault)) => put_step_fault(out, fault),
     }
 }
 

@@ -22,6 +22,10 @@ pub fn put_reads(
 ) -> Result<(), AllocError>
     ensures { OnOk result (out.new ≡ out.old ++ spec.reads_lines ops.now found.now) }
 {
+    // Most tries read nothing: their operations needn't be looked at.
+    if found.is_empty() {
+        return Ok(());
+    }
     let mut rest = found;
     for op in ops {
         if let TxOp::Write(_) = op {

@@ -5,11 +5,11 @@ ghost use Rattle.report_text.specs.Lines.{behind};
 ghost use Rattle.report_text.specs.Events.{reply_words, fault_in};
 
 use crate::EventAnswer;
-use crate::answers::{put_step, short_step};
+use crate::answers::{put_drain, put_step, short_step};
 use crate::kept::Kept;
 use crate::tail::Tail;
 use crate::words::put_last;
-use cluster_core::StepFault;
+use cluster_core::DrainFault;
 use fb_bytes::Blob;
 use std::alloc::{AllocError, Global};
 use std::marker::Model;
@@ -38,8 +38,8 @@ impl Reply {
         Ok(Reply { kept })
     }
 
-    /// Why the step was refused, where it was.
-    pub fn fault(&self) -> Option<StepFault>
+    /// Why the event was refused, where it was.
+    pub fn fault(&self) -> Option<DrainFault>
         ensures { result ≡ fault_in self.now }
     {
         match &self.kept {
@@ -74,11 +74,12 @@ impl Reply {
     }
 }
 
-fn fault_in(answer: &EventAnswer) -> Option<StepFault>
+fn fault_in(answer: &EventAnswer) -> Option<DrainFault>
     ensures { result ≡ fault_in answer.now }
 {
     match answer {
-        EventAnswer::Step(Err(fault)) => Some(*fault),
+        EventAnswer::Step(Err(fault)) => Some(DrainFault::Step(*fault)),
+        EventAnswer::Drain(Err(fault)) => Some(*fault),
         _ => None,
     }
 }
@@ -89,8 +90,7 @@ fn short_answer(answer: &EventAnswer) -> Option<Tail>
 {
     match answer {
         EventAnswer::Step(answer) => short_step(answer),
-        EventAnswer::Drained { steps } => Some(Tail::last(b" steps ", *steps)),
-        EventAnswer::TurnsSpent { turns } => Some(Tail::last(b" turns-spent ", *turns)),
+        EventAnswer::Drain(_) => None,
     }
 }
 
@@ -99,7 +99,6 @@ fn put_event_answer(alloc: Global, out: &mut Blob, answer: &EventAnswer) -> Resu
 {
     match answer {
         EventAnswer::Step(answer) => put_step(alloc, out, answer),
-        EventAnswer::Drained { steps } => put_last(out, b" steps ", *steps),
-        EventAnswer::TurnsSpent { turns } => put_last(out, b" turns-spent ", *turns),
+        EventAnswer::Drain(drained) => put_drain(out, *drained),
     }
 }

@@ -5,7 +5,7 @@ use crate::events::put_events;
 use crate::outcomes::put_end;
 use atomic_ops::Op;
 use client_core::{End, Outcome};
-use cluster_core::{Answer, JobState, Refusal, StepFault};
+use cluster_core::{Answer, DrainFault, JobState, Refusal, StepFault};
 use database::{CommitFault, Found};
 use fb_bytes::{Blob, Seq};
 use mutations::{Mutation, Who};
@@ -163,13 +163,24 @@ fn short_and_long(alloc: Global) -> Result<[EventLine; 3], AllocError> {
     ])
 }
 
-// Lines of drains.
-fn drains(alloc: Global) -> Result<[EventLine; 2], AllocError> {
-    let drained = EventAnswer::Drained { steps: 50 };
-    let spent = EventAnswer::TurnsSpent { turns: 99 };
+// A drain.
+fn drained(alloc: Global, drained: Result<u64, DrainFault>) -> Result<EventLine, AllocError> {
+    told(
+        alloc,
+        ScheduleLine::Drain,
+        None,
+        EventAnswer::Drain(drained),
+    )
+}
+
+// Drains that ended with the script, with their turns, and with a step that was refused.
+fn drains(alloc: Global) -> Result<[EventLine; 3], AllocError> {
+    let spent = DrainFault::TurnsSpent { turns: 99 };
+    let failed = DrainFault::Step(StepFault::VaultFault);
     Ok([
-        told(alloc, ScheduleLine::Drain, None, drained)?,
-        told(alloc, ScheduleLine::Drain, None, spent)?,
+        drained(alloc, Ok(50))?,
+        drained(alloc, Err(spent))?,
+        drained(alloc, Err(failed))?,
     ])
 }
 
@@ -177,7 +188,8 @@ const SHORT_AND_LONG: &[u8] = b"begin 1 -> read 10\n\
       commit 1 -> commit 20\n\
       commit 2 -> commit 20\n\
       drain -> steps 50\n\
-      drain -> turns-spent 99\n";
+      drain -> turns-spent 99\n\
+      drain -> vault-fault\n";
 
 #[test]
 fn replies(rt: HostRuntime) -> Result<(), Fail> {

@@ -238,7 +238,48 @@ pub const JOBS: &[Case] = &[
     ),
     (&[], &[(REPLAY, ADDS, NONE, 0, ADDS_REPORT)], &[]),
     (&[], &[(REPLAY, CLEARED, NONE, 0, CLEARED_REPORT)], &[]),
+    // a script that is drained, and then nothing is left
+    (
+        &[],
+        &[(REPLAY, DRAINED, NONE, 0, DRAINED_REPORT)],
+        &[
+            (RANGE, Some(RANGE_FILE)),
+            (LOG, Some(LOG_FILE)),
+            (SEALED, Some(MANIFEST)),
+        ],
+    ),
 ];
+
+// The same commands, of which a drain makes the last three.
+const DRAINED: &[u8] = b"block 256\n\
+      pace 10\n\
+      client 1 src\n\
+      txn\n\
+      set a 1\n\
+      operator\n\
+      open default src box\n\
+      dump default \\e \\xff\n\
+      cut default\n\
+      seal default\n\
+      schedule\n\
+      op\n\
+      begin 1\n\
+      commit 1\n\
+      drain\n\
+      op\n\
+      drain\n";
+
+const DRAINED_REPORT: &[u8] = b"op open -> done\n\
+      begin 1 -> read 10\n\
+      commit 1 -> commit 20\n\
+      drain -> steps 3\n\
+      op -> none\n\
+      drain -> steps 0\n\
+      client 1 txn 1 try 1 read 10 commit 20\n\
+      entry src 20 client 1 1\n\
+      set a 1\n\
+      job 1 default hand running\n\
+      end 20\n";
 
 // Four commands that call the store.
 const FOUR_COMMANDS: &[u8] = b"block 256\n\
@@ -321,7 +362,76 @@ pub const FAILING_CALLS: &[Case] = &[
         )],
         &[],
     ),
+    // a drain ends at the step that is refused, and the next one goes on there
+    (
+        &[],
+        &[(
+            REPLAY,
+            TWO_DRAINS,
+            Failing { store: 3, ..NONE },
+            0,
+            b"drain -> vault-fault\n\
+          drain -> steps 2\n\
+          job 1 default hand running\n\
+          end 10\n",
+        )],
+        &[],
+    ),
 ];
+
+// Four commands that call the store, drained twice.
+const TWO_DRAINS: &[u8] = b"block 256\n\
+      pace 10\n\
+      operator\n\
+      open default src box\n\
+      dump default \\e \\xff\n\
+      cut default\n\
+      seal default\n\
+      schedule\n\
+      drain\n\
+      drain\n";
+
+// Agents without a task: each may claim while they aren't paused, and each may die. An agent that
+// holds nothing extends nothing.
+pub const AGENTS: &[Case] = &[(
+    &[],
+    &[(
+        REPLAY,
+        b"block 256\n\
+      pace 10\n\
+      agents 1\n\
+      operator\n\
+      pause\n\
+      resume\n\
+      schedule\n\
+      claim 1 0\n\
+      extend 1\n\
+      die 1\n\
+      op\n\
+      claim 1 7\n\
+      claim 0 0\n\
+      tick 5\n\
+      op\n\
+      claim 0 7\n\
+      die 0\n\
+      op\n",
+        NONE,
+        0,
+        b"claim 1 0 -> no-task\n\
+      extend 1 -> none\n\
+      die 1 -> dead\n\
+      op pause -> done\n\
+      claim 1 7 -> paused\n\
+      claim 0 0 -> paused\n\
+      tick 5 -> version 5\n\
+      op resume -> done\n\
+      claim 0 7 -> no-task\n\
+      die 0 -> dead\n\
+      op -> none\n\
+      end 5\n",
+    )],
+    &[],
+)];
 
 // Commands that are refused.
 pub const REFUSED: &[Case] = &[
@@ -511,21 +621,21 @@ pub const ENDINGS: &[Case] = &[
             (REPLAY, b"sett a", NONE, 2, b"refused text 1 word\n"),
             (
                 REPLAY,
-                b"operator\npause\ntick\n",
+                b"operator\nwait a\ntick\n",
                 NONE,
                 2,
                 b"refused text 3 place\n",
             ),
             (
                 REPLAY,
-                b"operator\nstatus a\npause\n",
+                b"operator\nstatus a\nwait a\n",
                 NONE,
                 15,
                 b"refused not-built 3\n",
             ),
             (
                 REPLAY,
-                b"schedule\nop\ndrain\n",
+                b"schedule\nop\ntake 0\n",
                 NONE,
                 15,
                 b"refused not-built 3\n",

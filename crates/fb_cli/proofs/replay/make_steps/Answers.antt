@@ -16,7 +16,7 @@ loop-line-preserved g c = record {
 }
 
 pub returns-in_err-told-clause-front : goal.returns-in_err-told-clause-front
-returns-in_err-told-clause-front g c = starved_front c.args.world.now.workload c.args.world.now.state c.loop-line.world.state c.make_step.new.world.state c.args.schedule.now c.loop-line.line-index c.loop-line.lines c.args.world.now.faults c.loop-line.world.faults c.make_step.new.world.faults c.loop-line.invariant.run c.loop-line.invariant.lines c.loop-line.invariant.causes c.in_err-told.ensures.starved c.in_err-told.ensures.later
+returns-in_err-told-clause-front g c = starved_front c.args.world.now.workload c.loop-line.world.workload c.args.world.now.state c.loop-line.world.state c.make_step.new.world.state c.args.schedule.now c.loop-line.line-index _ c.loop-line.lines c.args.world.now.faults c.loop-line.world.faults c.make_step.new.world.faults c.loop-line.invariant.workload c.loop-line.invariant.run c.loop-line.invariant.lines c.loop-line.invariant.causes c.in_err-told.ensures.starved (omega arith) c.in_err-told.ensures.later
 
 pub returns-in_err-event_line-clause-front : goal.returns-in_err-event_line-clause-front
 returns-in_err-event_line-clause-front g c = step_front c.args.world.now.workload c.loop-line.world.workload c.args.world.now.state c.loop-line.world.state c.make_step.new.world.state c.args.schedule.now c.loop-line.line-index _ c.loop-line.lines _ c.args.world.now.faults c.loop-line.world.faults c.make_step.new.world.faults c.loop-line.invariant.workload c.loop-line.invariant.run c.loop-line.invariant.lines c.loop-line.invariant.causes c.in_ok-told.ensures.step (omega arith) refl c.in_ok-told.ensures.faults
